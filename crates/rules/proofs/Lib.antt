@@ -1,0 +1,2 @@
+-- Laws of the definitions, each beside the definition's name; and the paper's table, computed.
+pub mod Cases
