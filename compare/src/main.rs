@@ -1,0 +1,180 @@
+//! Sub-commands over a plain board: print, make, against, walk, hex, unhex, bench.
+
+mod bench;
+mod board;
+#[cfg(test)]
+mod cases;
+mod make;
+mod random;
+mod sheet;
+#[cfg(test)]
+mod slow;
+mod walk;
+
+use random::Random;
+use std::io::{self, Read, Write};
+use std::path::{Path, PathBuf};
+use std::process::{Command, ExitCode, Stdio};
+
+const USAGE: &str = "usage:
+  compare print                       < sheet
+  compare make DIR COUNT SEED [KIND]
+  compare against PROGRAM COUNT SEED [KIND]
+  compare walk STEPS SEED
+  compare hex FILE
+  compare unhex                       < hex text
+  compare bench DIR
+KIND is accepted, contended, refused, mixed, flooded or damaged; left out, any of them.";
+
+/// How many differing sheets are kept.
+const MOST_KEPT: usize = 20;
+
+fn main() -> ExitCode {
+    let words: Vec<String> = std::env::args().skip(1).collect();
+    let words: Vec<&str> = words.iter().map(String::as_str).collect();
+    let done = match words[..] {
+        ["print"] => print(),
+        ["make", dir, count, seed] => make(dir, count, seed, None),
+        ["make", dir, count, seed, kind] => make(dir, count, seed, Some(kind)),
+        ["against", program, count, seed] => against(program, count, seed, None),
+        ["against", program, count, seed, kind] => against(program, count, seed, Some(kind)),
+        ["walk", steps, seed] => walk(steps, seed),
+        ["hex", file] => hex(file),
+        ["unhex"] => unhex(),
+        ["bench", dir] => bench::bench(Path::new(dir)),
+        _ => Err(USAGE.to_string()),
+    };
+    match done {
+        Ok(()) => ExitCode::SUCCESS,
+        Err(wrong) => {
+            eprintln!("{wrong}");
+            ExitCode::FAILURE
+        }
+    }
+}
+
+fn number(word: &str) -> Result<u64, String> {
+    word.parse().map_err(|_| format!("not a number: {word}"))
+}
+
+fn told<T>(result: io::Result<T>, what: &str) -> Result<T, String> {
+    result.map_err(|error| format!("{what}: {error}"))
+}
+
+fn standard_input() -> Result<Vec<u8>, String> {
+    let mut bytes = Vec::new();
+    told(io::stdin().read_to_end(&mut bytes), "standard input")?;
+    Ok(bytes)
+}
+
+fn standard_output(bytes: &[u8]) -> Result<(), String> {
+    told(io::stdout().write_all(bytes), "standard output")
+}
+
+fn print() -> Result<(), String> {
+    standard_output(sheet::print(&standard_input()?).as_bytes())
+}
+
+/// The sheets of a seed, one after the other.
+fn sheets(count: u64, seed: u64, kind: Option<&str>) -> Result<impl Iterator<Item = Vec<u8>>, String> {
+    let kind = match kind {
+        None => None,
+        Some(name) => {
+            let known = make::KINDS.iter().find(|known| known.0 == name);
+            Some(known.ok_or(format!("no such kind: {name}"))?.1)
+        }
+    };
+    let mut random = Random::new(seed);
+    Ok((0..count).map(move |_| {
+        let kind = kind.unwrap_or_else(|| make::any_kind(&mut random));
+        make::sheet(&mut random, kind)
+    }))
+}
+
+fn make(dir: &str, count: &str, seed: &str, kind: Option<&str>) -> Result<(), String> {
+    told(std::fs::create_dir_all(dir), dir)?;
+    for (place, bytes) in sheets(number(count)?, number(seed)?, kind)?.enumerate() {
+        let path = Path::new(dir).join(format!("{place:05}.sheet"));
+        told(std::fs::write(&path, bytes), &path.display().to_string())?;
+    }
+    Ok(())
+}
+
+/// What the program prints on the sheet, and whether it ended by itself. It is fed from a thread,
+/// since it may print before it has read everything or leave some of it unread.
+fn printed_by(program: &Path, bytes: &[u8]) -> io::Result<(Vec<u8>, bool)> {
+    let mut child = Command::new(program).stdin(Stdio::piped()).stdout(Stdio::piped()).spawn()?;
+    let mut input = child.stdin.take().expect("standard input is piped");
+    let output = std::thread::scope(|scope| {
+        scope.spawn(move || input.write_all(bytes));
+        child.wait_with_output()
+    })?;
+    Ok((output.stdout, output.status.code().is_some()))
+}
+
+fn against(program: &str, count: &str, seed: &str, kind: Option<&str>) -> Result<(), String> {
+    let program = told(PathBuf::from(program).canonicalize(), program)?;
+    let kept = Path::new("differences");
+    let (mut run, mut refused, mut different) = (0, 0, 0);
+    for bytes in sheets(number(count)?, number(seed)?, kind)? {
+        let ours = sheet::print(&bytes);
+        let (theirs, ended) = told(printed_by(&program, &bytes), "running the program")?;
+        run += 1;
+        refused += usize::from(ours.starts_with("sheet"));
+        if ended && theirs == ours.as_bytes() {
+            continue;
+        }
+        if different < MOST_KEPT {
+            told(keep(kept, different, &bytes, ours.as_bytes(), &theirs), "differences")?;
+        }
+        different += 1;
+    }
+    println!("sheets {run} (of them refused {refused}) differences {different}");
+    match different {
+        0 => Ok(()),
+        _ => Err("the first differing sheets are kept in differences/".to_string()),
+    }
+}
+
+fn keep(dir: &Path, place: usize, bytes: &[u8], ours: &[u8], theirs: &[u8]) -> io::Result<()> {
+    std::fs::create_dir_all(dir)?;
+    std::fs::write(dir.join(format!("{place:05}.sheet")), bytes)?;
+    std::fs::write(dir.join(format!("{place:05}.ours")), ours)?;
+    std::fs::write(dir.join(format!("{place:05}.theirs")), theirs)
+}
+
+fn walk(steps: &str, seed: &str) -> Result<(), String> {
+    let counts = walk::walk(number(steps)?, number(seed)?)?;
+    println!(
+        "openings {} boards {} (after commands accepted {}, refused {}), most load {}",
+        counts.openings, counts.boards, counts.accepted, counts.refused, counts.most_load
+    );
+    println!(
+        "drains {} with {} deliveries (longest {}), of them ending with a ring of waits {}",
+        counts.drains, counts.deliveries_in_drains, counts.longest_drain, counts.drained_with_ring
+    );
+    println!(
+        "rings recorded {}, the longest of {}, at most {} on a board; nothing wrong found",
+        counts.rings_recorded, counts.longest_ring, counts.most_rings
+    );
+    Ok(())
+}
+
+fn hex(file: &str) -> Result<(), String> {
+    let bytes = told(std::fs::read(file), file)?;
+    let text: Vec<String> = bytes.iter().map(|byte| format!("{byte:02X}")).collect();
+    println!("{}", text.join(" "));
+    Ok(())
+}
+
+fn unhex() -> Result<(), String> {
+    let text = standard_input()?;
+    let digits: Vec<u8> = text.into_iter().filter(|byte| !byte.is_ascii_whitespace()).collect();
+    if !digits.len().is_multiple_of(2) {
+        return Err("an odd number of hex digits".to_string());
+    }
+    let value = |digit: u8| (digit as char).to_digit(16).ok_or("not a hex digit".to_string());
+    let bytes: Result<Vec<u8>, String> =
+        digits.chunks(2).map(|pair| Ok((value(pair[0])? << 4 | value(pair[1])?) as u8)).collect();
+    standard_output(&bytes?)
+}
