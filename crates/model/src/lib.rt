@@ -1,0 +1,1 @@
+// The board of functions: definitions and proofs only, no function of the language.

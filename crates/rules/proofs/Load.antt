@@ -1,0 +1,176 @@
+-- Laws of the load: what each writing of a record adds to it or takes from it, and that a load below 64 leaves a free number, so that what
+-- is sent is sent. Assumes nothing.
+use mathlib.Core.Path.{_≡_, refl, sym, ap, _∙_, subst}
+use mathlib.Core.Logic.{_≢_, _⊎_, inl, inr, ⊎-elim}
+use mathlib.Core.Bool.{Bool, true, false}
+use mathlib.Core.List.{List, [], _∷_}
+use Prim.Native.Nat.{ℕ, zero, suc, _+_, _-_, _≤_, _<_}
+use native.Mathlib.Omega.{arith}
+use native.Mathlib.Decide.{ℕ-discrete, decLt}
+use lib.Dec.{ltb}
+use lib.ListN.{length, getD, set, length-set}
+use lib.Seq.{getD-set-same, getD-set-other}
+use borrow.Author.Tests.{lt-ltb, le-ltb}
+use Rattle.rules.specs.declared.Mode.{Mode}
+use Rattle.rules.specs.declared.Kind.{Kind}
+use Rattle.rules.specs.declared.Kind.the-variants.{Free, Request, Grant, Release, ListToHome, ListToObject}
+use Rattle.rules.specs.declared.Flight.{Flight}
+use Rattle.rules.specs.declared.Message.{Message}
+use Rattle.rules.specs.declared.Process.{Process}
+use Rattle.rules.specs.declared.Object.{Object}
+use Rattle.rules.specs.declared.Ring.{Ring}
+use Rattle.rules.specs.declared.Board.{Board}
+use Rattle.rules.specs.Tables.{pick, sum}
+use Rattle.rules.specs.Bits.{taken, lowestFree, withBit, withoutBit}
+use Rattle.rules.specs.Lists.{plain}
+use Rattle.rules.specs.Board.{noFlight, noObject, objectAt, kindAt, putProcess, putObject, putRing, putMessage, freed, inFlight, isMessage, putFirst, send, sendGrants, kindLoad, load}
+use Rattle.rules.proofs.Tables.{by-test, true-not-false, sum-change, sum-le, sum-same}
+use Rattle.rules.proofs.Bits.{with-same, with-other, without-same, without-other, lowest-free, lowest-free-le, lowest-free-none}
+
+-- ---- kinds
+pub message-load : (k : Kind) → isMessage k ≡ true → 1 ≤ kindLoad k
+message-load Free e = absurd (true-not-false (sym e))
+message-load (Request p o m) e = omega arith
+message-load (Grant p o m) e = omega arith
+message-load (Release p o) e = omega arith
+message-load ListToHome e = omega arith
+message-load (ListToObject o) e = omega arith
+
+pub no-message : (k : Kind) → isMessage k ≡ false → k ≡ Free
+no-message Free e = refl
+no-message (Request p o m) e = absurd (true-not-false e)
+no-message (Grant p o m) e = absurd (true-not-false e)
+no-message (Release p o) e = absurd (true-not-false e)
+no-message ListToHome e = absurd (true-not-false e)
+no-message (ListToObject o) e = absurd (true-not-false e)
+
+-- ---- one record written
+-- the books of processes and the rings do not count
+pub load-process : (b : Board) (p : ℕ) (x : Process) → load (putProcess b p x) ≡ load b
+unfolding load
+load-process b p x = refl
+
+pub load-ring : (b : Board) (s : ℕ) (r : Ring) → load (putRing b s r) ≡ load b
+unfolding load
+load-ring b s r = refl
+
+-- the kinds that stand under the numbers after one is written
+pub kind-other : (b : Board) (n k : ℕ) (m : Message) → k ≢ n → kindAt (putMessage b n m) k ≡ kindAt b k
+kind-other b n k m f = ap (λ (x : Flight). x .kind) (getD-set-other (b .flights) n k _ noFlight f)
+
+pub kind-same : (b : Board) (n : ℕ) (m : Message) → n < length (b .flights) → kindAt (putMessage b n m) n ≡ m .kind
+kind-same b n m h = ap (λ (x : Flight). x .kind) (getD-set-same (b .flights) n _ noFlight h)
+
+pub freed-other : (b : Board) (n k : ℕ) → k ≢ n → kindAt (freed b n) k ≡ kindAt b k
+freed-other b n k f = ap (λ (x : Flight). x .kind) (getD-set-other (b .flights) n k _ noFlight f)
+
+set-default : {A : Type 0} (l : List A) (i : ℕ) (d : A) → getD (set l i d) i d ≡ d
+set-default [] i d = refl
+set-default (x ∷ l) zero d = refl
+set-default (x ∷ l) (suc i) d = set-default l i d
+
+pub freed-same : (b : Board) (n : ℕ) → kindAt (freed b n) n ≡ Free
+freed-same b n = ap (λ (x : Flight). x .kind) (set-default (b .flights) n noFlight)
+
+-- a number freed takes its message's load away
+pub load-freed : (b : Board) (n : ℕ) → n < 64 → load (freed b n) + kindLoad (kindAt b n) ≡ load b
+unfolding load
+load-freed b n h =
+    omega (arith, ap kindLoad (freed-same b n), sum-change 64 (λ k. kindLoad (kindAt b k)) (λ k. kindLoad (kindAt (freed b n) k)) n h (λ k l f. ap kindLoad (freed-other b n k f)))
+
+-- a message written adds its load, and takes away what stood under its number
+pub load-message : (b : Board) (n : ℕ) (m : Message) → n < 64 → n < length (b .flights) → load (putMessage b n m) + kindLoad (kindAt b n) ≡ load b + kindLoad (m .kind)
+unfolding load
+load-message b n m h l =
+    omega (arith, ap kindLoad (kind-same b n m l), sum-change 64 (λ k. kindLoad (kindAt b k)) (λ k. kindLoad (kindAt (putMessage b n m) k)) n h (λ k z f. ap kindLoad (kind-other b n k m f)))
+
+pub load-free-number : (b : Board) (n : ℕ) (m : Message) → n < 64 → n < length (b .flights) → kindAt b n ≡ Free → load (putMessage b n m) ≡ load b + kindLoad (m .kind)
+load-free-number b n m h l e = omega (arith, load-message b n m h l, ap kindLoad e)
+
+-- an object's book written changes it by the change of its line
+pub load-object : (b : Board) (o : ℕ) (x : Object) → o < 16 → o < length (b .objects) → load (putObject b o x) + objectAt b o .«line_count» ≡ load b + x .«line_count»
+unfolding load
+load-object b o x h l =
+    omega (
+      arith,
+      ap (λ (y : Object). y .«line_count») (getD-set-same (b .objects) o x noObject l),
+      sum-change 16 (λ k. objectAt b k .«line_count») (λ k. objectAt (putObject b o x) k .«line_count») o h
+          (λ k z f. ap (λ (y : Object). y .«line_count») (getD-set-other (b .objects) o k x noObject f)),
+    )
+
+-- ---- the numbers in flight are those that hold a message
+abbrev pub Matched : Board → Type 0
+Matched b = (n : ℕ) → n < 64 → inFlight b n ≡ isMessage (kindAt b n)
+
+pub matched-free : (b : Board) → Matched b → (n : ℕ) → n < 64 → inFlight b n ≡ false → kindAt b n ≡ Free
+matched-free b h n l e = no-message (kindAt b n) (sym (h n l) ∙ e)
+
+pub matched-freed : (b : Board) (n : ℕ) → Matched b → Matched (freed b n)
+matched-freed b n h k l = elim (ℕ-discrete k n) [
+  | yes e ↦ rw e (without-same (b .occupied) n ∙ sym (ap isMessage (freed-same b n)))
+  | no f ↦ without-other (b .occupied) n k f ∙ h k l ∙ sym (ap isMessage (freed-other b n k f))
+]
+
+pub matched-message : (b : Board) (n : ℕ) (m : Message) → n < length (b .flights) → isMessage (m .kind) ≡ true → Matched b → Matched (putMessage b n m)
+matched-message b n m g e h k l = elim (ℕ-discrete k n) [
+  | yes z ↦ rw z (with-same (b .occupied) n ∙ sym (ap isMessage (kind-same b n m g) ∙ e))
+  | no f ↦ with-other (b .occupied) n k f ∙ h k l ∙ sym (ap isMessage (kind-other b n k m f))
+]
+
+-- ---- a send
+-- a load below 64 leaves a free number: each message in flight counts
+pub room-below : (b : Board) → Matched b → load b < 64 → lowestFree (b .occupied) < 64
+unfolding load
+room-below b h l = elim (decLt (lowestFree (b .occupied)) 64) [
+  | yes z ↦ z
+  | no f ↦ absurd (omega (arith, sum-same 64 1, sum-le 64 (λ k. 1) (λ k. kindLoad (kindAt b k)) (each (lowest-free-none (b .occupied) (omega (arith, lowest-free-le (b .occupied)))))))
+]
+  where
+    each : ((k : ℕ) → k < 64 → taken (b .occupied) k ≡ true) → (k : ℕ) → k < 64 → 1 ≤ kindLoad (kindAt b k)
+    each full k z = message-load (kindAt b k) (sym (h k z) ∙ full k z)
+
+-- nothing to send, no number free, and sent under the lowest free number
+pub send-nothing : (b : Board) (m : Message) → isMessage (m .kind) ≡ false → send b m ≡ b
+unfolding send
+send-nothing b m e = rw e
+
+pub send-full : (b : Board) (m : Message) → 64 ≤ lowestFree (b .occupied) → send b m ≡ b
+unfolding send putFirst
+send-full b m h = by-test (isMessage (m .kind)) (λ e. rw (e, le-ltb (lowestFree (b .occupied)) 64 h)) (λ e. rw e)
+
+pub send-sent : (b : Board) (m : Message) → isMessage (m .kind) ≡ true → lowestFree (b .occupied) < 64 → send b m ≡ putMessage b (lowestFree (b .occupied)) m
+unfolding send putFirst
+send-sent b m e h = rw (e, lt-ltb (lowestFree (b .occupied)) 64 h)
+
+module _ (b : Board) (sized : length (b .flights) ≡ 64) (matched : Matched b) where
+  -- a send that fits the load adds its message's load
+  pub load-send : (m : Message) → load b + kindLoad (m .kind) ≤ 64 → load (send b m) ≡ load b + kindLoad (m .kind)
+  load-send m h = by-test (isMessage (m .kind))
+      (λ e. let room : lowestFree (b .occupied) < 64 = room-below b matched (omega (arith, message-load (m .kind) e)) in
+      rw (send-sent b m e room) (load-free-number b (lowestFree (b .occupied)) m room (omega arith) (matched-free b matched (lowestFree (b .occupied)) room (lowest-free (b .occupied) room))))
+      (λ e. rw (send-nothing b m e) (omega (arith, ap kindLoad (no-message (m .kind) e))))
+
+  pub matched-send : (m : Message) → Matched (send b m)
+  matched-send m = by-test (isMessage (m .kind))
+      (λ e. elim (decLt (lowestFree (b .occupied)) 64) [
+        | yes h ↦ rw (send-sent b m e h) (matched-message b (lowestFree (b .occupied)) m (omega arith) e matched)
+        | no f ↦ rw (send-full b m (omega arith)) matched
+      ])
+      (λ e. rw (send-nothing b m e) matched)
+
+  pub sized-send : (m : Message) → length (send b m .flights) ≡ 64
+  sized-send m = by-test (isMessage (m .kind))
+      (λ e. elim (decLt (lowestFree (b .occupied)) 64) [
+        | yes h ↦ rw (send-sent b m e h) (length-set (b .flights) (lowestFree (b .occupied)) _ ∙ sized)
+        | no f ↦ rw (send-full b m (omega arith)) sized
+      ])
+      (λ e. rw (send-nothing b m e) sized)
+
+-- grants sent one after the other
+pub load-grants : (b : Board) (o : ℕ) (gs : List (ℕ × Mode)) → length (b .flights) ≡ 64 → Matched b → load b + length gs ≤ 64 → load (sendGrants b o gs) ≡ load b + length gs
+unfolding sendGrants
+load-grants b o [] s h l = omega arith
+load-grants b o (g ∷ gs) s h l =
+    let m = plain (Grant (g .0) o (g .1)) in
+    let e : load (send b m) ≡ load b + 1 = load-send b s h m (omega arith) in
+    omega (arith, load-grants (send b m) o gs (sized-send b s h m) (matched-send b s h m) (omega arith))
