@@ -1,12 +1,12 @@
 -- Laws of the sets of numbers: what stands in a set after a number is put in or taken out, when two sets are the same, the lowest number
 -- in a set and the lowest that is not, and the machine's operations on words of 64 digits. A number is its lowest digit and its half: every
 -- law is an induction on the digits. Assumes nothing.
-use mathlib.Core.Path.{_≡_, refl, sym, ap, ap₂, _∙_, subst}
+use mathlib.Core.Path.{_≡_, refl, sym, ap, ap₂, _∙_}
 use mathlib.Core.Bool.{Bool, true, false, not, _&&_}
-use mathlib.Core.Logic.{_≢_, _⊎_, inl, inr, ⊎-elim}
+use mathlib.Core.Logic.{_≢_}
 use Prim.Native.Nat.{ℕ, zero, suc, _+_, _-_, _*_, _/_, _%_, _^_, _≤_, _<_, min, max}
-use native.Mathlib.Nat.{pow-suc, mul-comm, one-mul, zero-add, div-one, div-eq-of-lt, suc-add, add-suc, add-zero}
-use native.Mathlib.Numerals.{add-one, one-add}
+use native.Mathlib.Nat.{pow-suc, mul-comm, one-mul, zero-add, div-one, suc-add, add-suc, add-zero}
+use native.Mathlib.Numerals.{one-add}
 use native.Mathlib.Omega.{arith}
 use native.Mathlib.Decide.{ℕ-discrete, decLt}
 use lib.Dec.{eqb, eqb·suc-suc}

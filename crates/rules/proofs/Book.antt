@@ -2,28 +2,27 @@
 -- waits for has exactly the processes that the sentence names: over a board, the relation `Waits`. Assumes nothing.
 use mathlib.Core.Path.{_≡_, refl, sym, ap, ap₂, _∙_}
 use mathlib.Core.Logic.{_≢_, _⊎_, inl, inr, ⊎-elim}
-use mathlib.Core.Bool.{Bool, true, false, not, _&&_}
+use mathlib.Core.Bool.{Bool, true, false, not}
 use mathlib.Core.Option.{Option, none, some}
 use mathlib.Core.List.{List, [], _∷_, _++_}
-use Prim.Native.Nat.{ℕ, zero, suc, _+_, _-_, _*_, _/_, _^_, _≤_, _<_}
+use Prim.Native.Nat.{ℕ, zero, suc, _+_, _-_, _^_, _≤_, _<_}
 use native.Mathlib.Numerals.{add-one}
 use native.Mathlib.Omega.{arith}
-use native.Mathlib.Decide.{ℕ-discrete}
 use lib.Dec.{eqb, ltb}
-use lib.ListN.{length, getD, set, drop, length-append, length-set, length-drop}
+use lib.ListN.{length, getD, drop, length-append, length-set, length-drop}
 use lib.Seq.{getD-set-same, getD-set-other}
-use borrow.Author.Tests.{eqb-true, eqb-false, eq-eqb, ne-eqb, lt-ltb, le-ltb, not-true}
+use borrow.Author.Tests.{eqb-false, ne-eqb, lt-ltb, le-ltb, not-true}
 use Rattle.rules.specs.declared.Mode.{Mode}
 use Rattle.rules.specs.declared.Mode.the-variants.{Shared, Exclusive}
 use Rattle.rules.specs.declared.Object.{Object}
 use Rattle.rules.specs.declared.Board.{Board}
-use Rattle.rules.specs.Tables.{pick, either, rows, collect, placeOf, among, nobody}
-use Rattle.rules.specs.Bits.{taken, withBit, withoutBit, marked}
+use Rattle.rules.specs.Tables.{rows, collect, among, nobody}
+use Rattle.rules.specs.Bits.{taken, withoutBit, marked}
 use Rattle.rules.specs.Book.{isExclusive, modeIf, conflict, holdIn, against, holderAt, rival, rivals, clear, held, struck, whoAt, modeAt, placeIn, joined, withoutFront, bars, ahead, waitedFor, frontClear, frontGranted, grantedFirst, settled}
 use Rattle.rules.specs.Board.{objectAt}
-use Rattle.rules.specs.Waits.{Holder, Stands, Waits, Among}
+use Rattle.rules.specs.Waits.{Stands, Waits, Among}
 use Rattle.rules.specs.Waits as W
-use Rattle.rules.proofs.Tables.{by-test, true-not-false, both, both-left, both-right, not-passed, among-is, is-among, among-left, among-right, among-cases, Collected, collected, collects, collect-none, nobody-is, nobody-from, rows-front, rows-last, rows-ext}
+use Rattle.rules.proofs.Tables.{by-test, true-not-false, both, both-left, both-right, not-passed, among-is, is-among, among-left, among-right, among-cases, collected, collects, collect-none, nobody-is, rows-front, rows-last, rows-ext, place-le, place-is, place-before, place-first, place-none, place-some}
 use Rattle.rules.proofs.Bits.{taken-half, marked-same, marked-other, without-same, without-other, taken-above}
 
 -- ---- modes
@@ -173,6 +172,32 @@ front-left-line o n e =
     let back : suc n - 1 ≡ n = omega arith in
     rw (e, back) (rows-front n _ ∙ ap (λ (t : List (ℕ × Mode)). (whoAt o 0, modeAt o 0) ∷ t)
     (rows-ext n _ _ (λ k h. ap₂ (λ (q : ℕ) (m : Mode). (q, m)) (sym (front-left-who o k)) (sym (front-left-mode o k)))))
+
+-- the place of a process in the line: it stands there, at no earlier place, and in no place where that is the line's length
+module _ (o : Object) (p : ℕ) where
+  pub placeIn-le : placeIn o p ≤ o .«line_count»
+  unfolding placeIn
+  placeIn-le = place-le p (o .«line_count») (whoAt o)
+
+  pub placeIn-is : placeIn o p < o .«line_count» → whoAt o (placeIn o p) ≡ p
+  unfolding placeIn
+  placeIn-is h = place-is p (o .«line_count») (whoAt o) h
+
+  pub placeIn-before : (j : ℕ) → j < placeIn o p → whoAt o j ≢ p
+  unfolding placeIn
+  placeIn-before j h = place-before p (o .«line_count») (whoAt o) j h
+
+  pub placeIn-first : (k : ℕ) → k < o .«line_count» → ((j : ℕ) → j < k → whoAt o j ≢ p) → whoAt o k ≡ p → placeIn o p ≡ k
+  unfolding placeIn
+  placeIn-first k h f e = place-first p (o .«line_count») (whoAt o) k h f e
+
+  pub placeIn-none : ((k : ℕ) → k < o .«line_count» → whoAt o k ≢ p) → placeIn o p ≡ o .«line_count»
+  unfolding placeIn
+  placeIn-none f = place-none p (o .«line_count») (whoAt o) f
+
+  pub placeIn-some : (k : ℕ) → k < o .«line_count» → whoAt o k ≡ p → placeIn o p ≤ k
+  unfolding placeIn
+  placeIn-some k h e = place-some p (o .«line_count») (whoAt o) k h e
 
 -- ---- whom a process waits for
 -- the sentence, of one object: "each other process that holds the object in conflict with it, and .. each process ahead of it in that line

@@ -1,23 +1,19 @@
 -- Laws of a list: what stands in it after entries are added, that its entries stay different, and the way back along its leads.
 -- A list of 16 does not grow, and needs not: 16 different entries below 16 are all the processes. Assumes nothing.
 use mathlib.Core.Path.{_≡_, refl, sym, ap, _∙_, subst}
-use mathlib.Core.Logic.{_≢_, _⊎_, inl, inr, ⊎-elim}
-use mathlib.Core.Bool.{Bool, true, false}
+use mathlib.Core.Logic.{_≢_, inl, inr, ⊎-elim}
+use mathlib.Core.Bool.{true, false}
 use mathlib.Core.List.{List, [], _∷_, _++_}
-use Prim.Native.Nat.{ℕ, zero, suc, _+_, _-_, _≤_, _<_}
-use native.Mathlib.Numerals.{add-one}
+use Prim.Native.Nat.{ℕ, zero, suc, _≤_, _<_}
 use native.Mathlib.Omega.{arith}
 use native.Mathlib.Decide.{ℕ-discrete, decLt}
-use lib.Dec.{eqb, ltb}
-use lib.ListN.{length, getD, set, replicate, length-append, length-set}
+use lib.ListN.{length, getD, replicate, length-append, length-set}
 use lib.Seq.{getD-set-same, getD-set-other}
-use borrow.Author.Tests.{lt-ltb, le-ltb, ltb-true, ltb-false}
+use borrow.Author.Tests.{lt-ltb, le-ltb}
 use Rattle.rules.specs.declared.Entries.{Entries}
-use Rattle.rules.specs.declared.Message.{Message}
-use Rattle.rules.specs.Tables.{pick, rows, among}
 use Rattle.rules.specs.Waits.{Among, Different}
 use Rattle.rules.specs.Lists.{entryAt, leadAt, listed, longer, addOne, addAll, toHome, nothing, starter, started, alongLeads}
-use Rattle.rules.proofs.Tables.{by-test, true-not-false, not-passed, among-is, is-among, among-rows, rows-place, among-cases, different-numbers, different-last}
+use Rattle.rules.proofs.Tables.{by-test, true-not-false, among-is, is-among, among-rows, rows-place, among-cases, different-numbers, different-last}
 
 -- ---- who is listed
 pub record Entry (l : Entries) (q : ℕ) : Type 0 where

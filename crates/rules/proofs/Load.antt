@@ -1,13 +1,13 @@
 -- Laws of the load: what each writing of a record adds to it or takes from it, and that a load below 64 leaves a free number, so that what
 -- is sent is sent. Assumes nothing.
-use mathlib.Core.Path.{_≡_, refl, sym, ap, _∙_, subst}
-use mathlib.Core.Logic.{_≢_, _⊎_, inl, inr, ⊎-elim}
+use mathlib.Core.Path.{_≡_, refl, sym, ap, _∙_}
+use mathlib.Core.Logic.{_≢_}
 use mathlib.Core.Bool.{Bool, true, false}
 use mathlib.Core.List.{List, [], _∷_}
-use Prim.Native.Nat.{ℕ, zero, suc, _+_, _-_, _≤_, _<_}
+use Prim.Native.Nat.{ℕ, zero, suc, _+_, _≤_, _<_}
 use native.Mathlib.Omega.{arith}
 use native.Mathlib.Decide.{ℕ-discrete, decLt}
-use lib.Dec.{ltb}
+use lib.Dec.{eqb, ltb}
 use lib.ListN.{length, getD, set, length-set}
 use lib.Seq.{getD-set-same, getD-set-other}
 use borrow.Author.Tests.{lt-ltb, le-ltb}
@@ -20,11 +20,19 @@ use Rattle.rules.specs.declared.Process.{Process}
 use Rattle.rules.specs.declared.Object.{Object}
 use Rattle.rules.specs.declared.Ring.{Ring}
 use Rattle.rules.specs.declared.Board.{Board}
-use Rattle.rules.specs.Tables.{pick, sum}
-use Rattle.rules.specs.Bits.{taken, lowestFree, withBit, withoutBit}
-use Rattle.rules.specs.Lists.{plain}
-use Rattle.rules.specs.Board.{noFlight, noObject, objectAt, kindAt, putProcess, putObject, putRing, putMessage, freed, inFlight, isMessage, putFirst, send, sendGrants, kindLoad, load}
+use Rattle.rules.specs.Tables.{among}
+use Rattle.rules.specs.Bits.{taken, lowestFree}
+use Rattle.rules.specs.declared.Entries.{Entries}
+use Rattle.rules.specs.declared.Wait.{Wait}
+use Rattle.rules.specs.declared.Wait.the-variants.{NotWaiting, Waiting}
+use Rattle.rules.specs.Book.{struck, modeAt, placeIn, joined, waitedFor, welcome, releaseArrives}
+use Rattle.rules.specs.Home.{asking, dropping, granted}
+use Rattle.rules.specs.Lists.{plain, askedOf, starterOf, addAll, entryDone, starter, started, listAtHome, looking, listAtObject, keeping, requestArrives}
+use Rattle.rules.specs.Commands.{recording, arriving, requested, released, delivered}
+use Rattle.rules.specs.Ranges.{KindRanged, Ranged}
+use Rattle.rules.specs.Board.{noFlight, noObject, processAt, objectAt, ringAt, listAt, kindAt, putProcess, putObject, putRing, putMessage, freed, inFlight, isMessage, putFirst, send, sendGrants, kindLoad, load}
 use Rattle.rules.proofs.Tables.{by-test, true-not-false, sum-change, sum-le, sum-same}
+use Rattle.rules.proofs.Book.{settled-count}
 use Rattle.rules.proofs.Bits.{with-same, with-other, without-same, without-other, lowest-free, lowest-free-le, lowest-free-none}
 
 -- ---- kinds
@@ -174,3 +182,107 @@ load-grants b o (g ∷ gs) s h l =
     let m = plain (Grant (g .0) o (g .1)) in
     let e : load (send b m) ≡ load b + 1 = load-send b s h m (omega arith) in
     omega (arith, load-grants (send b m) o gs (sized-send b s h m) (matched-send b s h m) (omega arith))
+
+-- ---- an accepted command
+-- a request adds two, where the load leaves room for them, and a release one
+pub load-requested : (b : Board) (p o : ℕ) (m : Mode) → length (b .flights) ≡ 64 → Matched b → load b ≤ 62 → load (requested b p o m) ≡ load b + 2
+unfolding requested
+load-requested b p o m s h l =
+    let c = putProcess b p (asking (processAt b p) o m) in
+    load-send c s h (plain (Request p o m)) (omega (arith, load-process b p (asking (processAt b p) o m))) ∙ ap (λ (x : ℕ). x + 2) (load-process b p (asking (processAt b p) o m))
+
+pub load-released : (b : Board) (p o : ℕ) → length (b .flights) ≡ 64 → Matched b → load b ≤ 63 → load (released b p o) ≡ load b + 1
+unfolding released
+load-released b p o s h l =
+    let c = putProcess b p (dropping (processAt b p) o) in
+    load-send c s h (plain (Release p o)) (omega (arith, load-process b p (dropping (processAt b p) o))) ∙ ap (λ (x : ℕ). x + 1) (load-process b p (dropping (processAt b p) o))
+
+-- ---- a delivery never adds to the load: what a message sends in its turn, and who joins a line, weigh no more than the message did
+-- a send, whether it fits or not
+module _ (b : Board) (sized : length (b .flights) ≡ 64) (matched : Matched b) where
+  pub load-send-le : (m : Message) → load (send b m) ≤ load b + kindLoad (m .kind)
+  load-send-le m = elim (decLt (lowestFree (b .occupied)) 64) [
+    | yes h ↦ by-test (isMessage (m .kind))
+        (λ e. rw (send-sent b m e h) (omega (arith, load-message b (lowestFree (b .occupied)) m h (omega arith))))
+        (λ e. rw (send-nothing b m e) (omega arith))
+    | no f ↦ rw (send-full b m (omega arith)) (omega arith)
+  ]
+
+grants-le : (b : Board) (o : ℕ) (gs : List (ℕ × Mode)) → length (b .flights) ≡ 64 → Matched b → load (sendGrants b o gs) ≤ load b + length gs
+unfolding sendGrants
+grants-le b o [] s h = omega arith
+grants-le b o (g ∷ gs) s h =
+    let m = plain (Grant (g .0) o (g .1)) in
+    omega (arith, load-send-le b s h m, grants-le (send b m) o gs (sized-send b s h m) (matched-send b s h m))
+
+-- a list weighs one, or nothing where it ends
+done-le : (l : Entries) → kindLoad (entryDone l .kind) ≤ 1
+unfolding entryDone
+done-le l = by-test (ltb (l .next + 1) (l .count)) (λ e. rw e (omega arith)) (λ e. rw e (omega arith))
+
+started-le : (p : ℕ) (qs : List ℕ) → kindLoad (started p qs .kind) ≤ 1
+unfolding started
+started-le p qs = by-test (ltb 1 (addAll (starter p) 0 qs .count)) (λ e. rw e (omega arith)) (λ e. rw e (omega arith))
+
+home-le : (l : Entries) (w : Wait) → kindLoad (listAtHome l w .kind) ≤ 1
+home-le l NotWaiting = done-le l
+home-le l (Waiting o m) = omega arith
+
+looking-le : (t : Bool) (l : Entries) (qs : List ℕ) → kindLoad (looking t l qs .sent .kind) ≤ 1
+looking-le true l qs = omega arith
+looking-le false l qs = done-le (addAll l (l .next) qs)
+
+object-le : (l : Entries) (o : Object) → kindLoad (listAtObject l o .sent .kind) ≤ 1
+unfolding listAtObject
+object-le l o =
+    let qs = waitedFor o (askedOf l) (modeAt o (placeIn o (askedOf l))) (placeIn o (askedOf l)) in
+    by-test (ltb (placeIn o (askedOf l)) (o .«line_count»)) (λ e. rw e (looking-le (among (starterOf l) qs) l qs)) (λ e. rw e (done-le l))
+
+joined-le : (o : Object) (p : ℕ) (m : Mode) → joined o p m .«line_count» ≤ o .«line_count» + 1
+unfolding joined
+joined-le o p m = by-test (ltb (o .«line_count») 16) (λ e. rw e (omega arith)) (λ e. rw e (omega arith))
+
+request-le : (ob : Object) (p o : ℕ) (m : Mode) → requestArrives ob p o m .object .«line_count» + kindLoad (requestArrives ob p o m .sent .kind) ≤ ob .«line_count» + 2
+unfolding requestArrives
+request-le ob p o m = by-test (welcome ob p m)
+    (λ e. rw e (omega arith))
+    (λ e. rw e (omega (arith, joined-le ob p m, started-le p (waitedFor ob p m (ob .«line_count»)))))
+
+release-le : (ob : Object) (p : ℕ) → length (releaseArrives ob p .grants) + releaseArrives ob p .object .«line_count» ≡ ob .«line_count»
+unfolding releaseArrives
+release-le ob p = settled-count (ob .«line_count») (struck ob p) refl
+
+-- a ring recorded or not: what both boards have
+recording-has : (P : Board → Type 0) (b : Board) (s : ℕ) (r : Ring) → P b → ((x : Ring) → P (putRing b s x)) → P (recording b s r)
+unfolding recording
+recording-has P b s r h f = by-test (eqb (r .count) 0) (λ e. rw e h) (λ e. rw e (f (keeping (ringAt b s) r)))
+
+module _ (b : Board) (sized : length (b .flights) ≡ 64) (books : length (b .objects) ≡ 16) (matched : Matched b) where
+  load-arriving : (k : Kind) (l : Entries) → KindRanged k → load (arriving k l b) ≤ load b + kindLoad k
+  load-arriving Free l h = omega arith
+  load-arriving (Request p o m) l h =
+      let r = requestArrives (objectAt b o) p o m in
+      omega (arith, load-send-le (putObject b o (r .object)) sized matched (r .sent), load-object b o (r .object) (h .1) (omega (arith, h .1)), request-le (objectAt b o) p o m)
+  load-arriving (Grant p o m) l h = omega (arith, load-process b p (granted (processAt b p) o m))
+  load-arriving (Release p o) l h =
+      let r = releaseArrives (objectAt b o) p in
+      omega (arith, grants-le (putObject b o (r .object)) o (r .grants) sized matched, load-object b o (r .object) (h .1) (omega (arith, h .1)), release-le (objectAt b o) p)
+  load-arriving ListToHome l h = omega (arith, load-send-le b sized matched (listAtHome l (processAt b (askedOf l) .wait)), home-le l (processAt b (askedOf l) .wait))
+  load-arriving (ListToObject o) l h =
+      let r = listAtObject l (objectAt b o) in
+      let c = recording b (starterOf l) (r .ring) in
+      omega (
+        arith,
+        load-send-le c (recording-has (λ x. length (x .flights) ≡ 64) b (starterOf l) (r .ring) sized (λ x. sized)) (recording-has Matched b (starterOf l) (r .ring) matched (λ x. matched)) (r .sent),
+        recording-has (λ x. load x ≡ load b) b (starterOf l) (r .ring) refl (load-ring b (starterOf l)),
+        object-le l (objectAt b o),
+      )
+
+pub load-delivered : (b : Board) (n : ℕ) → n < 64 → Ranged b → Matched b → load (delivered b n) ≤ load b
+unfolding delivered
+load-delivered b n h r m =
+    omega (
+      arith,
+      load-freed b n h,
+      load-arriving (freed b n) (length-set (b .flights) n noFlight ∙ r .flights) (r .objects) (matched-freed b n m) (kindAt b n) (listAt b n) (r .kinds n),
+    )
