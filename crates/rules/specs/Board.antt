@@ -2,7 +2,7 @@
 use Prim.Native.Nat.{ℕ, _+_}
 use mathlib.Core.Bool.{Bool, true, false}
 use mathlib.Core.List.{List, [], _∷_}
-use lib.Dec.{eqb, ltb}
+use lib.Dec.{ltb}
 use lib.ListN.{set, getD, replicate}
 use Rattle.rules.specs.declared.Mode.{Mode}
 use Rattle.rules.specs.declared.Wait.the-variants.{NotWaiting}
@@ -91,7 +91,7 @@ isMessage (Release p o) = true
 isMessage ListToHome = true
 isMessage (ListToObject o) = true
 
--- "A new message takes the lowest free number."
+-- "A new message takes the lowest free number." Where none is free nothing is sent; a board in shape never comes to that.
 unfoldable pub putFirst : Board → Message → ℕ → Board
 putFirst b m n = pick (ltb n 64) (putMessage b n m) b
 

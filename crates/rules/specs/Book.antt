@@ -9,9 +9,9 @@ use Rattle.rules.specs.declared.Mode.{Mode}
 use Rattle.rules.specs.declared.Mode.the-variants.{Shared, Exclusive}
 use Rattle.rules.specs.declared.Object.{Object}
 use Rattle.rules.specs.Tables.{pick, either, collect, placeOf, nobody}
-use Rattle.rules.specs.Bits.{taken, withBit, withoutBit, marked}
+use Rattle.rules.specs.Bits.{taken, withoutBit, marked}
 
--- "Modes: 0 shared, 1 exclusive."
+-- ---- modes
 abbrev pub isExclusive : Mode → Bool
 isExclusive Shared = false
 isExclusive Exclusive = true
@@ -93,7 +93,8 @@ ahead o p m k = collect (bars o p m) (whoAt o) k
 
 -- "A process in a line waits for each other process that holds the object in conflict with it, and for each process ahead of it
 -- in that line whose mode conflicts": whom p waits for in mode m at place k, in the order of a list.
--- One that both holds and stands ahead is named first as a holder; a list takes each process once.
+-- One that both holds and stands ahead is named first as a holder; a list takes each process once. The relation `Waits`, of which the
+-- promises speak, names the same processes (`listed-waits` and `waits-listed` in proofs/).
 unfoldable pub waitedFor : Object → ℕ → Mode → ℕ → List ℕ
 waitedFor o p m k = rivals o p m ++ ahead o p m k
 

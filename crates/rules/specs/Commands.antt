@@ -3,18 +3,17 @@ use Prim.Native.Nat.{ℕ, zero, suc, _+_}
 use mathlib.Core.Bool.{Bool, true, false, not, _&&_}
 use mathlib.Core.List.{List, [], _∷_}
 use lib.Dec.{eqb, ltb, leb}
-use lib.ListN.{set, getD, replicate}
+use lib.ListN.{getD, replicate}
 use Rattle.rules.specs.declared.Mode.{Mode}
 use Rattle.rules.specs.declared.Mode.the-variants.{Shared, Exclusive}
 use Rattle.rules.specs.declared.Kind.{Kind}
 use Rattle.rules.specs.declared.Kind.the-variants.{Free, Request, Grant, Release, ListToHome, ListToObject}
 use Rattle.rules.specs.declared.Entries.{Entries}
-use Rattle.rules.specs.declared.Process.{Process}
 use Rattle.rules.specs.declared.Board.{Board}
 use Rattle.rules.specs.declared.Command.{Command}
 use Rattle.rules.specs.declared.Command.the-variants as Do
 use Rattle.rules.specs.declared.Answer.{Answer}
-use Rattle.rules.specs.declared.Answer.the-variants.{Done, CountOutside, HomeOutside, NoProcess, NoObject, NoMode, ProcessWaits, HasReleased, HoldsAlready, HoldsNot, LoadTooHigh, NoMessage, OutOfShape}
+use Rattle.rules.specs.declared.Answer.the-variants.{Done, CountOutside, HomeOutside, NoProcess, NoObject, NoMode, ProcessWaits, HasReleased, HoldsAlready, HoldsNot, LoadTooHigh, NoMessage}
 use Rattle.rules.specs.declared.Stepped.{Stepped}
 use Rattle.rules.specs.declared.Drained.{Drained}
 use Rattle.rules.specs.Tables.{pick, rows, all}
@@ -31,7 +30,7 @@ use Rattle.rules.specs.Board.{noProcess, noObject, noFlight, processAt, 
 unfoldable pub recording : Board → ℕ → Ring → Board
 recording b s r = pick (eqb (r .count) 0) b (putRing b s (keeping (ringAt b s) r))
 
--- "Each node acts on the message and its own book": one record is read, the rule for its book decides, one record is written.
+-- Each node acts on the message and its own book: one record is read, the rule for it decides, and that record is written if it changed.
 abbrev pub arriving : Kind → Entries → Board → Board
 arriving Free l b = b
 arriving (Request p o m) l b = let r = requestArrives (objectAt b o) p o m in send (putObject b o (r .object)) (r .sent)
@@ -41,6 +40,7 @@ arriving ListToHome l b = send b (listAtHome l (processAt b (askedOf l) .wait))
 arriving (ListToObject o) l b = let r = listAtObject l (objectAt b o) in send (recording b (starterOf l) (r .ring)) (r .sent)
 
 -- ---- what an accepted command does
+-- "Modes: 0 shared, 1 exclusive."
 abbrev pub modeOf : ℕ → Mode
 modeOf m = pick (eqb m 0) Shared Exclusive
 
@@ -133,8 +133,11 @@ abbrev pub zeroBoard : Board
 zeroBoard = emptyBoard 0 0 0 (replicate 16 0) (replicate 16 0)
 
 -- "Limits: 1 to 8 nodes, 1 to 16 processes, 1 to 16 objects"
+abbrev pub countFits : ℕ → ℕ → Bool
+countFits n top = ltb 0 n && leb n top
+
 abbrev pub outside : ℕ → ℕ → Bool
-outside n top = not (ltb 0 n && leb n top)
+outside n top = not (countFits n top)
 
 -- "homes past the counts are ignored"
 unfoldable pub homesOf : ℕ → List ℕ → List ℕ

@@ -14,7 +14,7 @@ abbrev pub isWaiting : Wait → Bool
 isWaiting NotWaiting = false
 isWaiting (Waiting o m) = true
 
--- "its home has it holding that object"
+-- the hold of object o that the home notes, with its mode
 abbrev pub holdAt : Process → ℕ → Option Mode
 holdAt p o = holdIn (p .shared) (p .exclusive) o
 
@@ -22,6 +22,7 @@ abbrev pub isHold : Option Mode → Bool
 isHold none = false
 isHold (some m) = true
 
+-- "its home has it holding that object"
 abbrev pub holding : Process → ℕ → Bool
 holding p o = isHold (holdAt p o)
 

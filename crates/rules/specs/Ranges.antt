@@ -1,5 +1,5 @@
--- Sizes and ranges alone: what reading and writing records safely rests on. Weaker than shape, and kept by every command, also by
--- an accepted request that puts a board out of shape.
+-- Sizes and ranges alone: what reading and writing records safely rests on. A board in shape has them, its arrays being as long as
+-- their types say, and every command keeps them, also an accepted request that puts a board out of shape.
 use Prim.Native.Nat.{ℕ, _≤_, _<_}
 use mathlib.Core.Path.{_≡_}
 use lib.ListN.{length}

@@ -20,10 +20,10 @@ use Rattle.rules.specs.declared.Drained.{Drained}
 use Rattle.rules.specs.Tables.{pick, either, placeOf, all, sum, countOf}
 use Rattle.rules.specs.Bits.{taken}
 use Rattle.rules.specs.Book.{whoAt}
-use Rattle.rules.specs.Home.{isWaiting}
-use Rattle.rules.specs.Lists.{entryAt, leadAt}
+use Rattle.rules.specs.Lists.{leadAt}
 use Rattle.rules.specs.Board.{processAt, objectAt, kindAt, listAt, ringAt, inFlight, isMessage, load}
 use Rattle.rules.specs.Commands.{turn, draining}
+pub use Rattle.rules.specs.Commands.{countFits}
 
 abbrev pub implies : Bool → Bool → Bool
 implies a b = pick a b true
@@ -46,9 +46,6 @@ unfoldable pub different : List ℕ → ℕ → Bool
 different l n = all n (λ k. eqb (placeOf n (λ j. getD l j 0) (getD l k 0)) k)
 
 -- ---- "counts, homes .. are in range"
-abbrev pub countFits : ℕ → ℕ → Bool
-countFits n top = ltb 0 n && leb n top
-
 unfoldable pub countsFit : Board → Bool
 countsFit b = countFits (b .nodes) 8 && (countFits (b .«process_count») 16 && (countFits (b .«object_count») 16
     && (rowFits (b .«process_home») (b .«process_count») (b .nodes) && rowFits (b .«object_home») (b .«object_count») (b .nodes))))

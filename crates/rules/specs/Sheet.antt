@@ -1,9 +1,9 @@
 -- The packed sheet: its fields, its refusals in order, the commands that it holds, and what running it does to the board and to
 -- every byte of the answer room. A sheet is a list of bytes; a field is named by the number of its first bit.
 use Prim.Native.Nat.{ℕ, zero, suc, _+_, _-_, _*_, _/_, _%_, _^_}
-use mathlib.Core.Bool.{Bool, true, false, not}
+use mathlib.Core.Bool.{Bool, not}
 use mathlib.Core.List.{List, [], _∷_}
-use lib.Dec.{eqb, ltb, leb}
+use lib.Dec.{eqb, ltb}
 use lib.ListN.{set, getD, length, drop}
 use Rattle.rules.specs.declared.Board.{Board}
 use Rattle.rules.specs.declared.Command.{Command}
@@ -105,7 +105,8 @@ refusedRun a b room = record { ran = record { answer = a; commands = 0; board = 
 abbrev pub wholeRun : Board → List ℕ → List ℕ → ℕ → Run
 wholeRun b s room n = record { ran = record { answer = Done; commands = n; board = boardAfter b s n }; room = roomAfter b s room n }
 
--- one call for many commands: the shape first, then an odd byte, then the room
+-- ---- one call for many commands on any board, which the paper does not name: it is what runs the commands part of a sheet.
+-- Being one call it asks the shape once, then for an odd byte, then for the room; it reads the fields, and spare bits are the sheet's.
 abbrev pub runTests : Board → List ℕ → List ℕ → List (Bool × Answer)
 runTests b s room = (not (inShape b), OutOfShape)
     ∷ (eqb (length s % 2) 1, OddByte)

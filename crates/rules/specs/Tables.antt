@@ -1,5 +1,5 @@
 -- Small tables: choice by a test, the first n values of a function, those that pass a test, the first place of a number, sums.
--- All but `placeOf` recur at the end, as a loop that counts up does.
+-- The tables (rows, collect, all, sum) recur at the end, as a loop that counts up does.
 use Prim.Native.Nat.{ℕ, zero, suc, _+_}
 use mathlib.Core.Bool.{Bool, true, false, _&&_}
 use mathlib.Core.List.{List, [], _∷_, _++_}

@@ -1,7 +1,7 @@
 -- Waits and rings, over the books of a board; the boards that commands reach. The promises speak of these.
 use mathlib.Core.Path.{_≡_}
 use mathlib.Core.Logic.{_⊎_, _≢_}
-use mathlib.Core.Bool.{Bool, true, false}
+use mathlib.Core.Bool.{true}
 use mathlib.Core.Option.{some}
 use mathlib.Core.List.{List, [], _∷_}
 use Prim.Native.Nat.{ℕ, suc, _<_}
@@ -75,12 +75,12 @@ abbrev pub Quiet : Board → Type 0
 Quiet b = (n : ℕ) → Present b n → ⊥
 
 -- ---- what commands reach
--- "any board reached from an opening by any commands, refused ones included"
+-- any board reached from an opening by any commands, refused ones included
 pub data Reached : Board → Type 0 where
   opens : (n p o : ℕ) (hp ho : List ℕ) → opening n p o hp ho .answer ≡ Done → Reached (opening n p o hp ho .board)
   does : {b : Board} → Reached b → (c : Command) → Reached (step b c .board)
 
--- "on every later board": the boards that commands reach from b
+-- every later board: those that commands reach from b
 pub data Later (b : Board) : Board → Type 0 where
   now : Later b b
   does : {c : Board} → Later b c → (x : Command) → Later b (step c x .board)

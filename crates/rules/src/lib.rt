@@ -98,7 +98,7 @@ pub enum Command {
     Deliver(u8),
 }
 
-// One case for each row of the table of answer numbers, in its order.
+// Done, then one case for each row of the table of answer numbers, in its order.
 pub enum Answer {
     Done,
     CountOutside,
@@ -121,7 +121,7 @@ pub enum Answer {
     RoomTooShort,
 }
 
-// What a call on a board hands back.
+// What an opening, and a call on a board, hands back.
 pub struct Stepped {
     pub answer: Answer,
     pub board: Board,
