@@ -1,0 +1,121 @@
+-- Every board that commands reach is as promised: demand 3.
+use mathlib.Core.Path.{_≡_, refl, ap, ap₂, sym, _∙_}
+use mathlib.Core.Logic.{_⊎_, inl, inr, _≢_}
+use mathlib.Core.Option.{Option, none, some}
+use Prim.Native.Nat.{ℕ, _<_}
+use native.Mathlib.Omega.{arith}
+use Rattle.rules.specs.declared.Mode.{Mode}
+use Rattle.rules.specs.declared.Wait.{Wait}
+use Rattle.rules.specs.declared.Wait.the-variants.{NotWaiting, Waiting}
+use Rattle.rules.specs.declared.Board.{Board}
+use Rattle.rules.specs.declared.Command.{Command}
+use Rattle.rules.specs.declared.Command.the-variants as Do
+use Rattle.rules.specs.declared.Answer.{Answer}
+use Rattle.rules.specs.declared.Answer.the-variants.{Done, OutOfShape}
+use Rattle.rules.specs.declared.Stepped.{Stepped}
+use Rattle.rules.specs.Answers.{number, firstOf}
+use Rattle.rules.specs.Book.{isExclusive}
+use Rattle.rules.specs.Board.{processAt, kindAt, listAt, ringAt}
+use Rattle.rules.specs.Commands.{tests, answerTo, turn}
+use Rattle.rules.specs.Shape.{drain}
+use Rattle.rules.specs.Waits.{IsRing, Filled, Quiet, Later, Deliveries, recorded}
+use Rattle.model.specs.Board.{wants, Message as MessageM, Filled as FilledM}
+use Rattle.model.specs.Reach.{NoMessages}
+use Rattle.model.proofs.Tables.{some-not-none}
+use Rattle.model.proofs.Agreement.{wantedObject, wantedMode}
+use Rattle.model.proofs.Theorems.{recorded-true, recorded-own, recorded-later, all-found, agree-holds, agree-waits, no-conflict}
+use Rattle.promises.specs.Demand.{RingsTrue, Ends, AtRest, NoConflict, Fits, Demand, DemandHolds}
+use Rattle.promises.proofs.Seen.Tables.{filled-to, filled-from}
+use Rattle.promises.proofs.Seen.{holdSeen, waitSeen, seen}
+use Rattle.promises.proofs.Sends.{isThere, there-kind}
+use Rattle.promises.proofs.Commands.{Passed, Every, first-view}
+use Rattle.promises.proofs.Seen.Waits.{same-mode, conflict-view, hold-back, stands-in, in-stands, ring-to, ring-from, has-from}
+use Rattle.promises.proofs.Reached.{Sound, sound, sound-shape, sound-load, step-turn, step-present, later-seen, delivered-sound, at-most, one-more}
+use Rattle.promises.proofs.Drain.{drain-view, drain-enough}
+
+module _ (b : Board) (s : Sound b) where
+  fill : (q : ℕ) → Filled b q → FilledM (seen b .place q)
+  fill q h = filled-to (ringAt b q .count) _ h
+
+  rings-true : RingsTrue b
+  rings-true = record {
+    ring = λ q h. ring-from b (recorded b q) (recorded-true (seen b) (s .reach) q (fill q h));
+    own = λ q h. recorded-own (seen b) (s .reach) q (fill q h);
+    later = later;
+  }
+    where
+      later : (c : Board) → Later b c → (q : ℕ) → Filled b q → (recorded c q ≡ recorded b q) × IsRing c (recorded b q)
+      later c l q h = let k = later-seen s l in let z = recorded-later (seen b) (s .reach) (seen c) (k .1) q (fill q h) in (z .0, ring-from c (recorded b q) (z .1))
+
+  -- after the last of 1,920 deliveries there is none to make
+  spent : (c : Board) → Deliveries 1920 b c → Quiet c
+  spent c r i p = omega (arith, at-most s (one-more r i (step-present c (delivered-sound s r) i p)))
+
+  ends : Ends b
+  ends =
+      let d = drain-view b s 1920 in
+      record {
+        deliverable = step-present b s;
+        atMost = λ n c r. at-most s r;
+        stuck = λ n c r f i p. f i (step-present c (delivered-sound s r) i p);
+        after = spent;
+        way = (drain b 1920 .made, drain b 1920 .board, at-most s (d .made), d .made, drain-enough b s 1920 (omega arith));
+      }
+
+  at-rest : Quiet b → AtRest b
+  at-rest q = record {
+    found = λ l h.
+        let k = all-found (seen b) (s .reach) still l (ring-to b l h) in
+        (k .0, has-from b (k .0) l (k .1), filled-from (ringAt b (k .0) .count) _ (k .2));
+    holds = λ p o m.
+        let k = agree-holds (seen b) (s .reach) still p o (isExclusive m) in
+        ((λ e. hold-back _ m (k .0 (ap holdSeen e))), λ e. hold-back _ m (k .1 (ap holdSeen e)));
+    waits = λ p o m.
+        let k = agree-waits (seen b) (s .reach) still p o (isExclusive m) in
+        ((λ e. in-stands b o p m (k .0 (ap waitSeen e))), λ z. wait-back (processAt b p .wait) o m (k .1 (stands-in b o (z .0) p m (z .1))));
+  }
+    where
+      still : NoMessages (seen b)
+      still i h = go (seen b .messages i) refl
+        where
+          go : (x : Option MessageM) → seen b .messages i ≡ x → seen b .messages i ≡ none
+          go none e = e
+          go (some x) e = absurd (q i (h, s .tidy .matched i h ∙ there-kind (kindAt b i) (listAt b i) ∙ ap isThere e))
+
+      wait-back : (w : Wait) (o : ℕ) (m : Mode) → waitSeen w ≡ wants o (isExclusive m) → w ≡ Waiting o m
+      wait-back NotWaiting o m e = some-not-none (waitSeen NotWaiting) _ e refl
+      wait-back (Waiting u n) o m e = ap₂ Waiting (ap wantedObject e) (same-mode n m (ap wantedMode e))
+
+  apart : NoConflict b
+  apart p q o m n ne x y = conflict-view m n ∙ no-conflict (seen b) (s .reach) p q o (isExclusive m) (isExclusive n) ne (ap holdSeen x) (ap holdSeen y)
+
+  -- no test of a command has 17 for its answer
+  no-17 : (c : Command) → turn b c .answer ≢ OutOfShape
+  unfolding turn answerTo
+  no-17 c e = go (first-view (λ (a : Answer). number a < 17) (tests b c) (low c))
+    where
+      low : (c : Command) → Every (λ (a : Answer). number a < 17) (tests b c)
+      low (Do.Request p o m) = omega arith
+      low (Do.Release p o) = omega arith
+      low (Do.Deliver n) = omega arith
+
+      go : (number (firstOf (tests b c)) < 17) ⊎ (Passed (tests b c) × (firstOf (tests b c) ≡ Done)) → ⊥
+      go (inl h) = omega (arith, ap number e)
+      go (inr h) = omega (arith, ap number e, ap number (h .1))
+
+  fits : Fits b
+  fits = record { shape = sound-shape b s; steps = λ c e. no-17 c (ap (λ (x : Stepped). x .answer) (sym (step-turn b s c)) ∙ e); drains = λ n. drain-view b s n .answer }
+
+  all-of-it : Demand b
+  all-of-it = record {
+    rings = rings-true;
+    ends = ends;
+    atRest = at-rest;
+    noConflict = apart;
+    loadAtMost = sound-load b s;
+    fits = fits;
+    drains = λ n. let d = drain-view b s n in record { made = d .made; within = d .within; end = d .end; enough = drain-enough b s n };
+  }
+
+pub demand-holds : DemandHolds
+demand-holds b r = all-of-it b (sound r)

@@ -1,0 +1,2 @@
+-- The statement: one page.
+pub mod Demand
