@@ -1,0 +1,89 @@
+-- Every process passed fits. Assumes nothing.
+use borrow.Author.Needs.{needs}
+use mathlib.Core.Path.{_≡_, refl, sym}
+use Prim.Native.Nat.{_≤_, _-_}
+use native.Mathlib.Omega.{arith}
+use mathlib.Core.Bool.{true}
+use lib.ListN.{length}
+use Rattle.rules.specs.Tables.{all}
+use Rattle.shape.proofs.Tests.{ends-table, goes-on, length-mapped, read-fits, up-to-le}
+use Rattle.rules.specs.Board.{processAt}
+use Rattle.rules.specs.Shape.{processFits, upTo}
+use Rattle.shape.proofs.book.processes_fit.Statement.{statement}
+use Rattle.shape.proofs.book.processes_fit.Tie as tie
+
+abbrev Inv-loop : tie.InvT-loop
+Inv-loop b end p₀ p = (p ≤ 16) × (all p (λ q. processFits (processAt b q) (upTo q (b .«process_count») (b .«object_count»))) ≡ true)
+
+abbrev μ-loop : tie.MeasureT-loop
+μ-loop b end p₀ p = 16 - p
+
+sizes : (c : tie.Start Inv-loop μ-loop) → length (c .args .t1 .processes) ≡ 16
+sizes c = search (needs, length-mapped)
+
+one : (c : tie.After-process-fits Inv-loop μ-loop) → c .process-fits .result ≡ processFits (processAt (c .before .before .before .before .before .before .args .t1) (c .before .before .before .before .loop .p)) (upTo (c .before .before .before .before .loop .p) (c .before .before .before .before .before .before .args .t1 .«process_count») (c .before .before .before .before .before .before .args .t1 .«object_count»))
+one c =
+    let a = c .before .before .before .before .before .before .args .t1 in
+    let v = c .before .before .before .before .loop in
+    let l = sizes (c .before .before .before .before .before .before) in
+    read-fits processFits (a .processes) (v .p) _ _ _ _ _ _ _ (omega arith) (c .process-fits .ensures) (c .before .up-to .ensures) (c .before .before .before .before .before .wide .ensures .0)
+
+wide-requires : tie.Need-wide-requires Inv-loop μ-loop
+wide-requires c κs = search needs
+
+loop-holds : tie.Need-loop-holds Inv-loop μ-loop
+unfolding all
+loop-holds c = (omega arith, refl)
+
+mul-process-fits : tie.Need-mul-process-fits Inv-loop μ-loop
+mul-process-fits c = search needs
+
+element-copy-out-process-fits : tie.Need-element-copy-out-process-fits Inv-loop μ-loop
+element-copy-out-process-fits c = search needs
+
+up-to-requires : tie.Need-up-to-requires Inv-loop μ-loop
+up-to-requires c κs = search needs
+
+process-fits-requires : tie.Need-process-fits-requires Inv-loop μ-loop
+process-fits-requires c κs =
+    omega (arith, c .up-to .ensures, up-to-le (c .before .before .before .loop .p) (c .before .before .before .before .wide .result) (c .before .before .before .before .before .args .t1 .«object_count») (c .before .before .before .before .before .pre .objects))
+
+returns : tie.Need-returns Inv-loop μ-loop
+returns c =
+    let v = c .before .before .before .before .before .loop in
+    ends-table 16 (v .p) _ _ (omega arith) (one (c .before)) (c .if1 .taken)
+
+add-p : tie.Need-add-p Inv-loop μ-loop
+add-p c = search needs
+
+loop-less : tie.Need-loop-less Inv-loop μ-loop
+loop-less c = search needs
+
+loop-again : tie.Need-loop-again Inv-loop μ-loop
+loop-again c =
+    let v = c .before .before .before .before .before .loop in
+    (omega arith, goes-on (v .p) _ _ (v .inv .1) (one (c .before)) (c .if1 .left))
+
+returns-2 : tie.Need-returns-2 Inv-loop μ-loop
+returns-2 c =
+    let v = c .before .loop in
+    let e : v .p ≡ 16 = omega arith in
+    sym (rw e at (v .inv .1))
+
+pub processes-fit-spec : {M : Type 1} → statement M
+processes-fit-spec =
+    tie.close
+    (tie.spec
+    Inv-loop
+    μ-loop
+    wide-requires
+    loop-holds
+    mul-process-fits
+    element-copy-out-process-fits
+    up-to-requires
+    process-fits-requires
+    returns
+    add-p
+    loop-less
+    loop-again
+    returns-2)

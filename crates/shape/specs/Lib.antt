@@ -1,0 +1,2 @@
+-- What the tests' contracts speak of beside the rules.
+pub mod Stand
