@@ -1,0 +1,4 @@
+-- What the handlers' contracts say beside the rules.
+pub mod Tests
+pub mod Sets
+pub mod Rings
