@@ -1,0 +1,65 @@
+// Fields of a sheet, most significant bit first. Past the sheet's end there are zeros.
+ghost use mathlib.Core.Path.{_≡_};
+ghost use Prim.Native.Nat.{_+_, _*_, _<_, _≤_, _^_};
+ghost use Rattle.rules.specs.Sheet.{bitAt};
+ghost use Rattle.rules.specs.Sheet as Rules;
+ghost use Rattle.reader.specs.Place as Place;
+ghost use Rattle.reader.specs.Place.{fieldAt};
+
+// The number that a field stands for, and the bit after the field.
+pub struct Number {
+    pub value: usize,
+    pub next: usize,
+}
+
+fn bit(s: &[u8], at: usize) -> usize
+    ensures { λ r. ⌜ r ≡ bitAt (now (s .entry)) at ⌝ }
+{
+    let byte = at / 8;
+    if byte < s.len() {
+        let x = s[byte];
+        let down = 7 - at % 8;
+        ((x >> down) % 2) as usize
+    } else {
+        0
+    }
+}
+
+// The number that n bits from bit `at` on stand for.
+pub fn field(s: &[u8], at: usize, n: usize) -> usize
+    requires { ⌜ (at + n < 2 ^ 64) × (n ≤ 16) ⌝ }
+    ensures { λ r. ⌜ (r ≡ Rules.field (now (s .entry)) at n) × (r < 2 ^ n) ⌝ }
+{
+    let mut v: usize = 0;
+    let mut i: usize = 0;
+    while i < n {
+        v = 2 * v + bit(s, at + i);
+        i += 1;
+    }
+    v
+}
+
+// How much of n is read at a bit: at most 16 bits or 16 homes, and none far past any sheet.
+pub fn within(at: usize, n: usize) -> usize
+    ensures { λ r. ⌜ (r ≡ Place.within at n) × (r ≤ 16) × (at + 3 * r < 2 ^ 64) ⌝ }
+{
+    if 16 < n {
+        return 0;
+    }
+    if 4294967296 < at {
+        return 0;
+    }
+    n
+}
+
+// A field of n bits at a position, and the position after it.
+pub fn field_at(s: &[u8], at: usize, n: usize) -> Number
+    ensures { λ r. ⌜ r ≡ fieldAt (now (s .entry)) at n ⌝ }
+{
+    let w = within(at, n);
+    let value = field(s, at, w);
+    Number {
+        value: value,
+        next: at + w,
+    }
+}

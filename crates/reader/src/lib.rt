@@ -1,0 +1,101 @@
+// A sheet is read through one reading place, which moves on bit by bit: the sheet, and the bit that is read next.
+// The work is done on the sheet and a position, in the modules below; the functions over the reading place are thin.
+// Above them stand functions with plain parameters: what a sheet says before its commands, and what follows a bit.
+ghost use mathlib.Core.Path.{_≡_};
+ghost use Prim.Native.Nat.{_+_, _*_};
+ghost use lib.ListN.{drop};
+ghost use Rattle.rules.specs.Sheet.{field, homesFrom};
+ghost use Rattle.reader.specs.Place.{within, byteUp};
+ghost use Rattle.reader.specs.Head.{headOf};
+
+mod field;
+mod row;
+mod whole;
+
+pub struct Reader<'a> {
+    pub sheet: &'a [u8],
+    pub at: usize,
+}
+
+// What a sheet says before its commands, which start at byte `start`.
+pub struct Head {
+    pub form: usize,
+    pub nodes: usize,
+    pub processes: usize,
+    pub objects: usize,
+    pub spare: usize,
+    pub process_home: [u8; 16],
+    pub object_home: [u8; 16],
+    pub homes_spare: usize,
+    pub start: usize,
+}
+
+// The reading place at the sheet's first bit.
+pub fn new<'a>(s: &'a [u8]) -> Reader<'a>
+    ensures { λ r. ⌜ (r .sheet ≡ s .entry) × (r .at ≡ 0) ⌝ }
+{
+    Reader { sheet: s, at: 0 }
+}
+
+// Reads n bits, and moves on.
+pub fn read<'s, 'a>(r: &'s mut Reader<'a>, n: usize) -> usize
+    ensures { λ v. ⌜ (v ≡ field (now (now (r .entry) .sheet)) (now (r .entry) .at) (within (now (r .entry) .at) n))
+        × (now (r .exit) .sheet ≡ now (r .entry) .sheet)
+        × (now (r .exit) .at ≡ now (r .entry) .at + within (now (r .entry) .at) n) ⌝ }
+{
+    let f = field::field_at(r.sheet, r.at, n);
+    r.at = f.next;
+    f.value
+}
+
+// Reads n homes, and moves on.
+pub fn homes<'s, 'a>(r: &'s mut Reader<'a>, n: usize) -> [u8; 16]
+    ensures { λ v. ⌜ (v ≡ homesFrom (now (now (r .entry) .sheet)) (now (r .entry) .at) (within (now (r .entry) .at) n))
+        × (now (r .exit) .sheet ≡ now (r .entry) .sheet)
+        × (now (r .exit) .at ≡ now (r .entry) .at + 3 * within (now (r .entry) .at) n) ⌝ }
+{
+    let f = row::row_at(r.sheet, r.at, n);
+    r.at = f.next;
+    f.homes
+}
+
+// What is left, from the next whole byte on.
+pub fn rest<'a>(r: Reader<'a>) -> &'a [u8]
+    ensures { λ p. ⌜ now p ≡ drop (byteUp (r .entry .at)) (now (r .entry .sheet)) ⌝ }
+{
+    whole::tail_at(r.sheet, r.at)
+}
+
+// The header, the homes of the processes and of the objects, and the spare bits to the byte's end, through one reading place.
+pub fn read_head(s: &[u8]) -> Head
+    ensures { λ r. ⌜ r ≡ headOf (now (s .entry)) ⌝ }
+{
+    let mut r = new(s);
+    let form = read(&mut r, 4);
+    let nodes = read(&mut r, 3) + 1;
+    let processes = read(&mut r, 4) + 1;
+    let objects = read(&mut r, 4) + 1;
+    let spare = read(&mut r, 1);
+    let process_home = homes(&mut r, processes);
+    let object_home = homes(&mut r, objects);
+    let left = whole::left(r.at);
+    let homes_spare = read(&mut r, left);
+    Head {
+        form: form,
+        nodes: nodes,
+        processes: processes,
+        objects: objects,
+        spare: spare,
+        process_home: process_home,
+        object_home: object_home,
+        homes_spare: homes_spare,
+        start: r.at / 8,
+    }
+}
+
+// What is left of a sheet from the whole byte at or after bit `at` on.
+pub fn rest_from<'a>(s: &'a [u8], at: usize) -> &'a [u8]
+    ensures { λ p. ⌜ now p ≡ drop (byteUp at) (now (s .entry)) ⌝ }
+{
+    rest(Reader { sheet: s, at: at })
+}

@@ -1,0 +1,5 @@
+-- Laws that the reader's proofs share.
+pub mod Tests
+pub mod Spare
+pub mod Order
+pub mod Parts

@@ -1,0 +1,3 @@
+-- Definitions that the reader's inner contracts cite.
+pub mod Part
+pub mod Head
