@@ -1,8 +1,8 @@
 -- Every board that commands reach is as promised: demand 3.
 use mathlib.Core.Path.{_≡_, refl, ap, ap₂, sym, _∙_}
-use mathlib.Core.Logic.{_⊎_, inl, inr, _≢_}
+use mathlib.Core.Logic.{_≢_}
 use mathlib.Core.Option.{Option, none, some}
-use Prim.Native.Nat.{ℕ, _<_}
+use Prim.Native.Nat.{ℕ}
 use native.Mathlib.Omega.{arith}
 use Rattle.rules.specs.declared.Mode.{Mode}
 use Rattle.rules.specs.declared.Wait.{Wait}
@@ -10,13 +10,12 @@ use Rattle.rules.specs.declared.Wait.the-variants.{NotWaiting, Waiting}
 use Rattle.rules.specs.declared.Board.{Board}
 use Rattle.rules.specs.declared.Command.{Command}
 use Rattle.rules.specs.declared.Command.the-variants as Do
-use Rattle.rules.specs.declared.Answer.{Answer}
-use Rattle.rules.specs.declared.Answer.the-variants.{Done, OutOfShape}
+use Rattle.rules.specs.declared.Answer.the-variants.{OutOfShape}
 use Rattle.rules.specs.declared.Stepped.{Stepped}
-use Rattle.rules.specs.Answers.{number, firstOf}
+use Rattle.rules.specs.Answers.{number}
 use Rattle.rules.specs.Book.{isExclusive}
 use Rattle.rules.specs.Board.{processAt, kindAt, listAt, ringAt}
-use Rattle.rules.specs.Commands.{tests, answerTo, turn}
+use Rattle.rules.specs.Commands.{turn}
 use Rattle.rules.specs.Shape.{drain}
 use Rattle.rules.specs.Waits.{IsRing, Filled, Quiet, Later, Deliveries, recorded}
 use Rattle.model.specs.Board.{wants, Message as MessageM, Filled as FilledM}
@@ -25,12 +24,13 @@ use Rattle.model.proofs.Tables.{some-not-none}
 use Rattle.model.proofs.Agreement.{wantedObject, wantedMode}
 use Rattle.model.proofs.Theorems.{recorded-true, recorded-own, recorded-later, all-found, agree-holds, agree-waits, no-conflict}
 use Rattle.promises.specs.Demand.{RingsTrue, Ends, AtRest, NoConflict, Fits, Demand, DemandHolds}
-use Rattle.promises.proofs.Seen.Tables.{filled-to, filled-from}
+use Rattle.promises.proofs.Seen.Tables.{has-from, filled-to, filled-from}
 use Rattle.promises.proofs.Seen.{holdSeen, waitSeen, seen}
 use Rattle.promises.proofs.Sends.{isThere, there-kind}
-use Rattle.promises.proofs.Commands.{Passed, Every, first-view}
-use Rattle.promises.proofs.Seen.Waits.{same-mode, conflict-view, hold-back, stands-in, in-stands, ring-to, ring-from, has-from}
-use Rattle.promises.proofs.Reached.{Sound, sound, sound-shape, sound-load, step-turn, step-present, later-seen, delivered-sound, at-most, one-more}
+use Rattle.promises.proofs.Commands.{Answered, refused, accepted, turn-view}
+use Rattle.promises.proofs.Seen.Objects.{conflict-view}
+use Rattle.promises.proofs.Seen.Waits.{same-mode, hold-back, stands-in, in-stands, ring-to, ring-from}
+use Rattle.promises.proofs.Reached.{Sound, sound, sound-shape, step-turn, step-present, later-seen, delivered-sound, at-most, one-more}
 use Rattle.promises.proofs.Drain.{drain-view, drain-enough}
 
 module _ (b : Board) (s : Sound b) where
@@ -66,7 +66,7 @@ module _ (b : Board) (s : Sound b) where
   at-rest q = record {
     found = λ l h.
         let k = all-found (seen b) (s .reach) still l (ring-to b l h) in
-        (k .0, has-from b (k .0) l (k .1), filled-from (ringAt b (k .0) .count) _ (k .2));
+        (k .0, has-from (k .0) l (k .1), filled-from (ringAt b (k .0) .count) _ (k .2));
     holds = λ p o m.
         let k = agree-holds (seen b) (s .reach) still p o (isExclusive m) in
         ((λ e. hold-back _ m (k .0 (ap holdSeen e))), λ e. hold-back _ m (k .1 (ap holdSeen e)));
@@ -80,7 +80,7 @@ module _ (b : Board) (s : Sound b) where
         where
           go : (x : Option MessageM) → seen b .messages i ≡ x → seen b .messages i ≡ none
           go none e = e
-          go (some x) e = absurd (q i (h, s .tidy .matched i h ∙ there-kind (kindAt b i) (listAt b i) ∙ ap isThere e))
+          go (some x) e = absurd (q i (h, s .good .shaped .records .flying i h ∙ there-kind (kindAt b i) (listAt b i) ∙ ap isThere e))
 
       wait-back : (w : Wait) (o : ℕ) (m : Mode) → waitSeen w ≡ wants o (isExclusive m) → w ≡ Waiting o m
       wait-back NotWaiting o m e = some-not-none (waitSeen NotWaiting) _ e refl
@@ -90,21 +90,12 @@ module _ (b : Board) (s : Sound b) where
   apart p q o m n ne x y = conflict-view m n ∙ no-conflict (seen b) (s .reach) p q o (isExclusive m) (isExclusive n) ne (ap holdSeen x) (ap holdSeen y)
 
   -- no test of a command has 17 for its answer
-  no-17 : (c : Command) → turn b c .answer ≢ OutOfShape
-  unfolding turn answerTo
-  no-17 c e = go (first-view (λ (a : Answer). number a < 17) (tests b c) (low c))
-    where
-      low : (c : Command) → Every (λ (a : Answer). number a < 17) (tests b c)
-      low (Do.Request p o m) = omega arith
-      low (Do.Release p o) = omega arith
-      low (Do.Deliver n) = omega arith
-
-      go : (number (firstOf (tests b c)) < 17) ⊎ (Passed (tests b c) × (firstOf (tests b c) ≡ Done)) → ⊥
-      go (inl h) = omega (arith, ap number e)
-      go (inr h) = omega (arith, ap number e, ap number (h .1))
+  no-17 : (c : Command) → Answered b c → turn b c .answer ≢ OutOfShape
+  no-17 c (refused _ h _) e = omega (arith, ap number e)
+  no-17 c (accepted _ d) e = omega (arith, ap number e, ap number d)
 
   fits : Fits b
-  fits = record { shape = sound-shape b s; steps = λ c e. no-17 c (ap (λ (x : Stepped). x .answer) (sym (step-turn b s c)) ∙ e); drains = λ n. drain-view b s n .answer }
+  fits = record { shape = sound-shape b s; steps = λ c e. no-17 c (turn-view b c) (ap (λ (x : Stepped). x .answer) (sym (step-turn b s c)) ∙ e); drains = λ n. drain-view b s n .answer }
 
   all-of-it : Demand b
   all-of-it = record {
@@ -112,7 +103,7 @@ module _ (b : Board) (s : Sound b) where
     ends = ends;
     atRest = at-rest;
     noConflict = apart;
-    loadAtMost = sound-load b s;
+    loadAtMost = s .good .shaped .load;
     fits = fits;
     drains = λ n. let d = drain-view b s n in record { made = d .made; within = d .within; end = d .end; enough = drain-enough b s n };
   }

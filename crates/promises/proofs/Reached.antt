@@ -1,72 +1,66 @@
--- What is known of every board that commands reach: it is tidy and clean, and seen as a board that the model reaches. So it is in
--- shape, and a call on it is the rule's turn.
+-- What is known of every board that commands reach: it is in shape, and seen as a board that the model reaches. So a call on it is the
+-- rule's turn. Deliveries and releases keep any board in shape; an accepted request does, since its process stood nowhere.
 use mathlib.Core.Path.{_≡_, ap, sym, _∙_}
 use mathlib.Core.Bool.{true}
 use Prim.Native.Nat.{ℕ, suc, _≤_}
-use borrow.Author.Tests.{lt-ltb}
 use Rattle.rules.specs.declared.Board.{Board}
 use Rattle.rules.specs.declared.Command.{Command}
 use Rattle.rules.specs.declared.Command.the-variants as Do
 use Rattle.rules.specs.declared.Answer.the-variants.{Done}
 use Rattle.rules.specs.declared.Stepped.{Stepped}
-use Rattle.rules.specs.Answers.{firstOf}
-use Rattle.rules.specs.Board.{load}
-use Rattle.rules.specs.Commands.{delivered, effect, answerTo, turn}
+use Rattle.rules.specs.Board.{processAt}
+use Rattle.rules.specs.Commands.{delivered, effect, turn}
 use Rattle.rules.specs.Shape.{inShape, step}
 use Rattle.rules.specs.Waits.{Present, Reached, opens, does, Later, now, Deliveries, more}
+use Rattle.laws.proofs.Shape.{tested}
+use Rattle.laws.proofs.Opening.{opening-sized, opening-shaped}
+use Rattle.laws.proofs.Kept.{Good, good, sound as records-of, turn-sound, deliver-good, release-good, turn-done, request-kept}
 use Rattle.model.specs.Reach.{Reach, Run, stop, then, now as nowM, Later as LaterM}
-use Rattle.model.proofs.Agreement.{Agreement}
-use Rattle.model.proofs.Search.{Search}
 use Rattle.model.proofs.Theorems.{reached-invariant, deliveries-at-most}
 use Rattle.promises.proofs.Seen.{seen}
-use Rattle.promises.proofs.Tidy.{Tidy}
-use Rattle.promises.proofs.Commands.{Moves, moves-later, Kept, turn-kept, turn-delivers, turn-present, opening-kept}
-use Rattle.promises.proofs.Clean.{Clean}
-use Rattle.promises.proofs.Clean.Steps.{turn-clean, opening-clean}
-use Rattle.promises.proofs.InShape.{in-shape, load-fits}
+use Rattle.promises.proofs.Commands.{Answered, refused, accepted, turn-view, not-waiting, Moves, moves-later, turn-moves, turn-delivers, turn-present, opening-view}
+use Rattle.promises.proofs.Standing.{stands-nowhere}
 
 pub record Sound (b : Board) : Type 0 where
-  pub tidy : Tidy b
-  pub clean : Clean b
+  pub good : Good b
   pub reach : Reach (seen b)
 
 module _ (b : Board) (s : Sound b) where
-  agreement : Agreement (seen b)
-  agreement = reached-invariant (s .reach) .0
-
-  search : Search (seen b)
-  search = reached-invariant (s .reach) .1
-
   pub sound-shape : inShape b ≡ true
-  sound-shape = in-shape b (s .tidy) (s .clean) agreement search
-
-  pub sound-load : load b ≤ 64
-  sound-load = load-fits b (s .tidy) (s .clean) agreement search
+  sound-shape = tested b (s .good .shaped)
 
   -- 17 is not given
   pub step-turn : (c : Command) → step b c ≡ turn b c
   unfolding step
   step-turn c = rw sound-shape
 
-  kept : (c : Command) → Kept b (step b c .board)
-  kept c = rw (step-turn c) (turn-kept b (s .tidy) agreement search c)
+  step-moves : (c : Command) → Moves (seen b) (seen (step b c .board))
+  step-moves c = rw (step-turn c) (turn-moves b (s .good) c)
 
-  pub step-moves : (c : Command) → Moves (seen b) (seen (step b c .board))
-  step-moves c = kept c .moves
+  request-good : (p o m : ℕ) → Answered b (Do.Request p o m) → Good (turn b (Do.Request p o m) .board)
+  request-good p o m (refused _ _ e) = rw e (s .good)
+  request-good p o m (accepted (h3, (h4, (h5, (h6, _)))) d) =
+      let k = request-kept b p o m (s .good .sized) sound-shape d in
+      good _ (turn-sound b (Do.Request p o m) (records-of b (s .good)) .sized) (k .kept .1 (stands-nowhere b (reached-invariant (s .reach) .0) p (not-waiting (processAt b p .wait) h6)))
+
+  turn-good : (c : Command) → Good (turn b c .board)
+  turn-good (Do.Request p o m) = request-good p o m (turn-view b (Do.Request p o m))
+  turn-good (Do.Release p o) = release-good b p o (s .good)
+  turn-good (Do.Deliver i) = deliver-good b i (s .good)
 
   pub step-sound : (c : Command) → Sound (step b c .board)
-  step-sound c = record { tidy = kept c .tidy; clean = rw (step-turn c) (turn-clean b (s .tidy) (s .clean) c); reach = moves-later (s .reach) (step-moves c) }
+  step-sound c = record { good = rw (step-turn c) (turn-good c); reach = moves-later (s .reach) (step-moves c) }
 
   -- a message present can be delivered
   pub step-present : (i : ℕ) → Present b i → step b (Do.Deliver i) .answer ≡ Done
   step-present i h = ap (λ (x : Stepped). x .answer) (step-turn (Do.Deliver i)) ∙ turn-present b i h
 
   pub step-delivered : (i : ℕ) → Present b i → step b (Do.Deliver i) .board ≡ delivered b i
-  unfolding turn answerTo firstOf effect
-  step-delivered i (l, e) = ap (λ (x : Stepped). x .board) (step-turn (Do.Deliver i)) ∙ rw (lt-ltb i 64 l, e)
+  unfolding effect
+  step-delivered i h = ap (λ (x : Stepped). x .board) (step-turn (Do.Deliver i)) ∙ turn-done b (Do.Deliver i) (turn-present b i h)
 
 pub sound : {b : Board} → Reached b → Sound b
-sound (opens n p o hp ho e) = let k = opening-kept n p o hp ho e in record { tidy = k .tidy; clean = opening-clean n p o hp ho e; reach = rw (k .view) nowM }
+sound (opens n p o hp ho e) = record { good = record { sized = opening-sized n p o hp ho; shaped = opening-shaped n p o hp ho e }; reach = rw (opening-view n p o hp ho e) nowM }
 sound (does {b = b} r c) = step-sound b (sound r) c
 
 pub later-seen : {b c : Board} → Sound b → Later b c → Sound c × LaterM (seen b) (seen c)
@@ -81,9 +75,8 @@ delivered-sound s (more {b = b} i e r) = delivered-sound (step-sound b s (Do.Del
 run-seen : {n : ℕ} {b c : Board} → Sound b → Deliveries n b c → Run n (seen b) (seen c)
 run-seen s Deliveries.none = stop
 run-seen s (more {b = b} i e r) =
-    let k = reached-invariant (s .reach) in
-    let x = turn-delivers b (s .tidy) (k .0) (k .1) i (ap (λ (y : Stepped). y .answer) (sym (step-turn b s (Do.Deliver i))) ∙ e) in
-    let v : seen (step b (Do.Deliver i) .board) ≡ _ = ap (λ (y : Stepped). seen (y .board)) (step-turn b s (Do.Deliver i)) ∙ x .3 .view in
+    let x = turn-delivers b (s .good) i (ap (λ (y : Stepped). y .answer) (sym (step-turn b s (Do.Deliver i))) ∙ e) in
+    let v : seen (step b (Do.Deliver i) .board) ≡ _ = ap (λ (y : Stepped). seen (y .board)) (step-turn b s (Do.Deliver i)) ∙ x .3 in
     then i (x .0) (x .1) (x .2) (rw v at (run-seen (step-sound b s (Do.Deliver i)) r))
 
 pub at-most : {n : ℕ} {b c : Board} → Sound b → Deliveries n b c → n ≤ 1920

@@ -1,11 +1,11 @@
 -- Messages taken out and sent: the rules and the model agree.
-use mathlib.Core.Path.{_≡_, refl, ap, _∙_}
+use mathlib.Core.Path.{_≡_, refl, ap, ap₂, _∙_}
 use mathlib.Core.Bool.{Bool, true, false}
 use mathlib.Core.Option.{Option, none, some}
 use mathlib.Core.List.{List, [], _∷_, map}
 use Prim.Native.Nat.{ℕ, zero, suc, _+_, _≤_, _<_}
 use native.Mathlib.Omega.{arith}
-use lib.ListN.{getD, set}
+use lib.ListN.{length, getD, set, length-set}
 use Rattle.rules.specs.declared.Mode.{Mode}
 use Rattle.rules.specs.declared.Kind.{Kind}
 use Rattle.rules.specs.declared.Kind.the-variants.{Free, Request, Grant, Release, ListToHome, ListToObject}
@@ -13,20 +13,18 @@ use Rattle.rules.specs.declared.Entries.{Entries}
 use Rattle.rules.specs.declared.Flight.{Flight}
 use Rattle.rules.specs.declared.Message.{Message}
 use Rattle.rules.specs.declared.Board.{Board}
-use Rattle.rules.specs.Bits.{taken, freeFrom, lowestFree}
+use Rattle.rules.specs.Bits.{taken, withoutBit, freeFrom, lowestFree}
 use Rattle.rules.specs.Book.{isExclusive}
 use Rattle.rules.specs.Lists.{plain, noEntries}
-use Rattle.rules.specs.Board.{kindAt, listAt, noFlight, putMessage, freed, isMessage, send, sendGrants}
-use Rattle.rules.proofs.Load.{send-nothing, send-sent}
+use Rattle.rules.specs.Board.{kindAt, listAt, noFlight, freed, isMessage, send, sendGrants, load}
+use Rattle.rules.proofs.Bits.{without-same, lowest-free-some}
+use Rattle.rules.proofs.Load.{Matched, matched-freed, matched-message, room-below, send-nothing, send-sent, load-send}
+use Rattle.laws.proofs.Kept.{Good}
 use Rattle.model.specs.Tables.{Numbered, put, lowestFrom, lowestFree as lowestFreeM, send as sendM}
-use Rattle.model.specs.Totals.{weigh, sumLine}
 use Rattle.model.specs.Board.{grant, withMessages, Message as MessageM, sendGrants as sendGrantsM, Board as BoardM}
-use Rattle.model.proofs.Flight.{lowest-is-free, send-weigh}
 use Rattle.promises.proofs.Seen.Tables.{seen-set-both}
 use Rattle.promises.proofs.Seen.{messageSeen, sentSeen, seen, board-path}
 use Rattle.promises.proofs.Seen.Objects.{waiterOf}
-use Rattle.promises.proofs.Seen.Lists.{Sized}
-use Rattle.promises.proofs.Tidy.{Tidy, tidy-message}
 
 -- ---- the lowest free number
 abbrev pub isThere : Option MessageM → Bool
@@ -41,10 +39,6 @@ there-kind (Release p o) l = refl
 there-kind ListToHome l = refl
 there-kind (ListToObject o) l = refl
 
--- a message by its kind
-pub seen-by : (b : Board) (n : ℕ) (k : Kind) → kindAt b n ≡ k → seen b .messages n ≡ messageSeen k (listAt b n)
-seen-by b n k e = ap (λ (y : Kind). messageSeen y (listAt b n)) e
-
 free-lowest : (occupied : ℕ) (f : Numbered MessageM) (d i : ℕ) → ((j : ℕ) → j < i + d → taken occupied j ≡ isThere (f j)) → freeFrom occupied d i ≡ lowestFrom d i f
 unfolding freeFrom lowestFrom
 free-lowest occupied f zero i h = refl
@@ -55,53 +49,60 @@ free-lowest occupied f (suc d) i h =
     ] in
     go (f i) refl
 
--- ---- a board, seen as w, and tidy
-pub record Bridge (b : Board) (w : BoardM) : Type 0 where
-  pub view : seen b ≡ w
-  pub tidy : Tidy b
+-- ---- what sending rests on; the books and the rings may be written meanwhile
+abbrev pub Ready : Board → Type 0
+Ready b = (length (b .flights) ≡ 64) × (length (b .lists) ≡ 64) × Matched b
 
-module _ (b : Board) (t : Tidy b) where
+pub ready : (b : Board) → Good b → Ready b
+ready b g = (g .sized .flights, g .sized .lists, g .shaped .records .flying)
+
+module _ (b : Board) (r : Ready b) where
   lowest-view : lowestFree (b .occupied) ≡ lowestFreeM (seen b .messages)
   unfolding lowestFree lowestFreeM
-  lowest-view = free-lowest (b .occupied) (seen b .messages) 64 0 (λ j h. t .matched j (omega arith) ∙ there-kind (kindAt b j) (listAt b j))
+  lowest-view = free-lowest (b .occupied) (seen b .messages) 64 0 (λ j h. r .2 j (omega arith) ∙ there-kind (kindAt b j) (listAt b j))
 
   -- a kind and a list, written under one number
   put-seen : (n : ℕ) (f : Flight) (l : Entries) → n < 64
       → (λ i. messageSeen (getD (set (b .flights) n f) i noFlight .kind) (getD (set (b .lists) n l) i noEntries)) ≡ put (seen b .messages) n (messageSeen (f .kind) l)
-  put-seen n f l h = seen-set-both (λ (f : Flight) (l : Entries). messageSeen (f .kind) l) (b .flights) (b .lists) n f noFlight l noEntries (omega (arith, t .flights)) (omega (arith, t .lists))
+  put-seen n f l h = seen-set-both (λ (f : Flight) (l : Entries). messageSeen (f .kind) l) (b .flights) (b .lists) n f noFlight l noEntries (omega (arith, r .0)) (omega (arith, r .1))
 
-  pub freed-messages : (n : ℕ) → n < 64 → seen (freed b n) .messages ≡ put (seen b .messages) n none
-  freed-messages n h = put-seen n noFlight noEntries h
+  -- ---- a number freed
+  module _ (n : ℕ) (h : n < 64) where
+    pub freed-messages : seen (freed b n) .messages ≡ put (seen b .messages) n none
+    freed-messages = put-seen n noFlight noEntries h
 
-  -- where it is sent, the lowest free number is the model's
-  abbrev low : ℕ
-  low = lowestFreeM (seen b .messages)
+    pub freed-ready : Ready (freed b n)
+    freed-ready = (length-set (b .flights) n _ ∙ r .0, length-set (b .lists) n _ ∙ r .1, matched-freed b n (r .2))
 
-  is-message : (m : Message) (x : MessageM) → sentSeen m ≡ some x → isMessage (m .kind) ≡ true
-  is-message m x e = there-kind (m .kind) (m .list) ∙ ap isThere e
+    pub freed-room : lowestFree (freed b n .occupied) < 64
+    freed-room = omega (arith, lowest-free-some (withoutBit (b .occupied) n) n h (without-same (b .occupied) n))
 
-  sent : (m : Message) (x : MessageM) → sentSeen m ≡ some x → low < 64 → send b m ≡ putMessage b low m
-  sent m x e h = rw lowest-view at (send-sent b m (is-message m x e) (rw lowest-view h))
-
+  -- ---- a message sent
   pub send-none : (m : Message) → sentSeen m ≡ none → send b m ≡ b
   send-none m e = send-nothing b m (there-kind (m .kind) (m .list) ∙ ap isThere e)
 
-  pub send-view : (m : Message) (x : MessageM) → Sized (m .list) → sentSeen m ≡ some x → low < 64 → Bridge (send b m) (withMessages (seen b) (sendM x (seen b .messages)))
-  unfolding sendM
-  send-view m x s e h = rw (sent m x e h) (record {
-    view = board-path _ _ refl refl refl refl refl (put-seen low _ (m .list) h ∙ ap (λ (y : Option MessageM). put (seen b .messages) low y) e) refl;
-    tidy = tidy-message b t low m h s (is-message m x e);
-  })
+  module _ (m : Message) (x : MessageM) (e : sentSeen m ≡ some x) (h : lowestFree (b .occupied) < 64) where
+    is-message : isMessage (m .kind) ≡ true
+    is-message = there-kind (m .kind) (m .list) ∙ ap isThere e
+
+    send-seen : seen (send b m) ≡ withMessages (seen b) (sendM x (seen b .messages))
+    unfolding sendM
+    send-seen = ap seen (send-sent b m is-message h)
+        ∙ board-path _ _ refl refl refl refl refl (put-seen _ _ (m .list) h ∙ ap₂ (λ (n : ℕ) (y : Option MessageM). put (seen b .messages) n y) lowest-view e) refl
+
+    pub send-view : (w : BoardM) → seen b ≡ w → seen (send b m) ≡ withMessages w (sendM x (w .messages))
+    send-view w e = send-seen ∙ ap (λ (w : BoardM). withMessages w (sendM x (w .messages))) e
+
+    send-ready : Ready (send b m)
+    send-ready = rw (send-sent b m is-message h) (length-set (b .flights) _ _ ∙ r .0, length-set (b .lists) _ _ ∙ r .1, matched-message b _ m (omega (arith, r .0)) is-message (r .2))
 
 -- ---- grants sent one after another
-pub grants-view : (gs : List (ℕ × Mode)) (b : Board) (o : ℕ) → Tidy b → weigh (λ _. 1) (seen b .messages) + sumLine (λ _. 1) (map waiterOf gs) ≤ 64
-    → Bridge (sendGrants b o gs) (withMessages (seen b) (sendGrantsM o (map waiterOf gs) (seen b .messages)))
-unfolding sendGrants sendGrantsM sumLine
-grants-view [] b o t h = record { view = refl; tidy = t }
-grants-view (g ∷ gs) b o t h =
-    let room : weigh (λ _. 1) (seen b .messages) < 64 = omega arith in
+pub grants-view : (gs : List (ℕ × Mode)) (b : Board) (o : ℕ) → Ready b → load b + length gs ≤ 64 → seen (sendGrants b o gs) ≡ withMessages (seen b) (sendGrantsM o (map waiterOf gs) (seen b .messages))
+unfolding sendGrants sendGrantsM
+grants-view [] b o r h = refl
+grants-view (g ∷ gs) b o r h =
+    let m = plain (Grant (g .0) o (g .1)) in
     let x = grant (g .0) o (isExclusive (g .1)) in
-    let s = send-view b t (plain (Grant (g .0) o (g .1))) x (record { who = refl; leads = refl }) refl ((lowest-is-free (seen b .messages) room) .0) in
-    let e : seen (send b (plain (Grant (g .0) o (g .1)))) .messages ≡ sendM x (seen b .messages) = ap (λ (w : BoardM). w .messages) (s .view) in
-    let r = grants-view gs (send b (plain (Grant (g .0) o (g .1)))) o (s .tidy) (rw e (omega (arith, send-weigh (seen b .messages) x room (λ _. 1)))) in
-    record { view = r .view ∙ ap (λ (w : BoardM). withMessages w (sendGrantsM o (map waiterOf gs) (w .messages))) (s .view); tidy = r .tidy }
+    let room : lowestFree (b .occupied) < 64 = room-below b (r .2) (omega arith) in
+    grants-view gs (send b m) o (send-ready b r m x refl room) (omega (arith, load-send b (r .0) (r .2) m (omega arith)))
+    ∙ ap (λ (w : BoardM). withMessages w (sendGrantsM o (map waiterOf gs) (w .messages))) (send-view b r m x refl room (seen b) refl)

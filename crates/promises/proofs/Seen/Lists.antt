@@ -3,29 +3,28 @@ use mathlib.Core.Path.{_≡_, refl, ap, ap₂, sym, _∙_, subst}
 use mathlib.Core.Logic.{inl, inr, ⊎-elim, if-pos, if-neg}
 use mathlib.Core.Bool.{true, false}
 use mathlib.Core.Option.{none, some}
-use mathlib.Core.List.{List, [], _∷_, _++_, map, append-assoc}
-use Prim.Native.Nat.{ℕ, zero, suc, _+_, _≤_, _<_}
+use mathlib.Core.List.{List, [], _∷_, _++_, map, map-append, append-nil, append-assoc}
+use Prim.Native.Nat.{ℕ, zero, suc, _≤_, _<_}
 use native.Mathlib.Omega.{arith}
 use native.Mathlib.Numerals.{add-one}
-use native.Mathlib.Decide.{ℕ-discrete}
-use lib.Dec.{eqb, ltb}
-use lib.ListN.{length, getD, length-set, length-map}
+use native.Mathlib.Decide.{ℕ-discrete, decLt}
+use lib.Dec.{eqb}
+use lib.ListN.{length, getD}
 use lib.Seq.{getD-set-same, getD-set-other}
 use borrow.Author.Tests.{eq-eqb, ne-eqb, lt-ltb, le-ltb}
 use Rattle.rules.specs.declared.Entries.{Entries}
 use Rattle.rules.specs.declared.Ring.{Ring}
 use Rattle.rules.specs.Tables.{pick, rows}
-use Rattle.rules.specs.Lists.{nothing, entryAt, leadAt, listed, longer, addOne, addAll, starter, started, toHome, alongLeads, ringOf, keeping}
+use Rattle.rules.specs.Lists.{entryAt, leadAt, listed, longer, addOne, addAll, starter, started, alongLeads, ringOf, keeping}
+use Rattle.rules.specs.Waits.{Among}
+use Rattle.rules.proofs.Tables.{by-test, true-not-false, among-is, among-not, rows-front, rows-ext, rows-map, rows-at, rows-length, rows-of}
+use Rattle.rules.proofs.Lists.{is-listed, addOne-listed, addOne-new, addOne-grown, full-lists, started-next, started-some, started-none}
+use Rattle.laws.proofs.Lists.{Growing, all-growing, starter-growing}
 use Rattle.model.specs.Lists.{Has, has?, fresh, unlessHas}
-use Rattle.model.proofs.Lists.{any-left, any-right, any-cases}
 use Rattle.model.specs.Board.{Entry, list, ledBy, names, added, keepFilled, alongLeads as alongLeadsM}
-use Rattle.rules.proofs.Tables.{rows-front, rows-map, rows-at, rows-length, rows-of}
-use Rattle.promises.proofs.Seen.Tables.{rows-snoc, AmongIs, among-view}
+use Rattle.model.proofs.Lists.{any-left, any-right, any-cases, fresh-in, fresh-all}
+use Rattle.promises.proofs.Seen.Tables.{has-to, has-from}
 use Rattle.promises.proofs.Seen.{entriesSeen, sentSeen}
-
-pub record Sized (l : Entries) : Type 0 where
-  pub who : length (l .who) ≡ 16
-  pub leads : length (l .leads) ≡ 16
 
 pub entries-count : (l : Entries) → length (entriesSeen l) ≡ l .count
 entries-count l = rows-length (l .count) _
@@ -66,84 +65,56 @@ fresh-new l q qs h = unless-no (has? q l) h q _ ∙ ap (λ (t : List ℕ). q ∷
     (λ x a. ⊎-elim (λ b. inr b) (λ b. ⊎-elim (λ c. inl c) (λ c. absurd c) b) (any-cases _ l (q ∷ []) a)))
 
 -- ---- entries are added
-pub record Grown (l k : Entries) (lead : ℕ) (qs : List ℕ) : Type 0 where
-  pub entries : entriesSeen k ≡ entriesSeen l ++ added (entriesSeen l) lead qs
-  pub next : k .next ≡ l .next
-  pub sized : Sized k
+longer-entries : (l : Entries) (q lead c : ℕ) → Growing l c → l .count < 16 → entriesSeen (longer l q lead) ≡ entriesSeen l ++ ledBy lead q ∷ []
+unfolding rows
+longer-entries l q lead c g h = rw add-one (ap₂ (λ (es : List Entry) (e : Entry). es ++ e ∷ [])
+    (rows-ext (l .count) _ _ (λ k a. ap₂ ledBy (getD-set-other (l .leads) (l .count) k lead 0 (omega arith)) (getD-set-other (l .who) (l .count) k q 0 (omega arith))))
+    (ap₂ ledBy (getD-set-same (l .leads) (l .count) lead 0 (omega (arith, g .leadsSize))) (getD-set-same (l .who) (l .count) q 0 (omega (arith, g .size)))))
 
-longer-entries : (l : Entries) (q lead : ℕ) → Sized l → l .count < 16 → entriesSeen (longer l q lead) ≡ entriesSeen l ++ ledBy lead q ∷ []
-longer-entries l q lead s h = rw add-one (rows-snoc (l .count) _ _ _
-    (λ k a. ap₂ ledBy (getD-set-other (l .leads) (l .count) k lead 0 (omega arith)) (getD-set-other (l .who) (l .count) k q 0 (omega arith)))
-    (ap₂ ledBy (getD-set-same (l .leads) (l .count) lead 0 (omega arith)) (getD-set-same (l .who) (l .count) q 0 (omega arith))))
+-- a list that is full lists every process, so one that is not listed finds room
+module _ (c lead : ℕ) (low : c ≤ 16) where
+  room-for : (l : Entries) (q : ℕ) → Growing l c → q < c → listed l q ≡ false → l .count < 16
+  room-for l q g h t = elim (decLt (l .count) 16) [
+    | yes a ↦ a
+    | no a ↦ absurd (true-not-false (sym (is-listed l q (full-lists l (omega arith) (g .different) (λ k d. omega (arith, g .who .used k d)) q (omega arith))) ∙ t))
+  ]
 
-longer-sized : (l : Entries) (q lead : ℕ) → Sized l → Sized (longer l q lead)
-longer-sized l q lead s = record { who = length-set (l .who) _ q ∙ s .who; leads = length-set (l .leads) _ lead ∙ s .leads }
+  pub add-view : (qs : List ℕ) (l : Entries) → lead < l .count → Growing l c → ((q : ℕ) → Among q qs → q < c) → entriesSeen (addAll l lead qs) ≡ entriesSeen l ++ added (entriesSeen l) lead qs
+  unfolding listed addAll fresh added
+  add-view [] l h g f = sym (append-nil (entriesSeen l))
+  add-view (q ∷ qs) l h g f = by-test (listed l q)
+      (λ t. had t (add-view qs l h g (λ x a. f x (inr a))))
+      (λ t. new t (add-view qs (addOne l lead q) (omega (arith, addOne-grown l lead q .longer)) (all-growing l c lead (q ∷ []) h (λ x a. f x (⊎-elim (λ e. inl e) (λ z. absurd z) a)) g) (λ x a. f x (inr a))))
+    where
+      ns : List ℕ
+      ns = names (entriesSeen l)
 
-names-snoc : (es : List Entry) (j q : ℕ) → names (es ++ ledBy j q ∷ []) ≡ names es ++ q ∷ []
-names-snoc [] j q = refl
-names-snoc (e ∷ es) j q = ap (λ (t : List ℕ). e .who ∷ t) (names-snoc es j q)
+      Added : Entries → List ℕ → Type 0
+      Added k xs = entriesSeen (addAll k lead qs) ≡ entriesSeen k ++ map (ledBy lead) xs
 
-pub append-nil : {A : Type 0} (l : List A) → l ++ [] ≡ l
-append-nil [] = refl
-append-nil {A} (x ∷ l) = ap (λ (t : List A). x ∷ t) (append-nil l)
+      had : listed l q ≡ true → Added l (fresh ns qs) → entriesSeen (addAll (addOne l lead q) lead qs) ≡ entriesSeen l ++ map (ledBy lead) (fresh ns (q ∷ qs))
+      had t r = rw (addOne-listed l lead q t) (r ∙ ap (λ (x : List ℕ). entriesSeen l ++ map (ledBy lead) x) (sym (fresh-had ns q qs (rw (names-rows l) (has-to q (rows (l .count) (entryAt l)) (among-is q _ t))))))
 
-pub add-view : (qs : List ℕ) (l : Entries) (lead : ℕ) → Sized l → l .count + length (fresh (names (entriesSeen l)) qs) ≤ 16 → Grown l (addAll l lead qs) lead qs
-unfolding addAll addOne fresh added listed
-add-view [] l lead s h = record { entries = sym (append-nil (entriesSeen l)); next = refl; sized = s }
-add-view (q ∷ qs) l lead s h = go (among-view q (rows (l .count) (entryAt l))) (λ k. add-view qs k lead)
-  where
-    ns : List ℕ
-    ns = names (entriesSeen l)
-
-    had : listed l q ≡ true → fresh ns (q ∷ qs) ≡ fresh ns qs → Grown l (addAll l lead qs) lead qs → Grown l (addAll (addOne l lead q) lead qs) lead (q ∷ qs)
-    had t z r = rw t (record { entries = r .entries ∙ ap (λ (x : List ℕ). entriesSeen l ++ map (ledBy lead) x) (sym z); next = r .next; sized = r .sized })
-
-    l′ : Entries
-    l′ = longer l q lead
-
-    new : listed l q ≡ false → ltb (l .count) 16 ≡ true → fresh ns (q ∷ qs) ≡ q ∷ fresh (ns ++ q ∷ []) qs
-        → entriesSeen l′ ≡ entriesSeen l ++ ledBy lead q ∷ [] → names (entriesSeen l′) ≡ ns ++ q ∷ []
-        → Grown l′ (addAll l′ lead qs) lead qs → Grown l (addAll (addOne l lead q) lead qs) lead (q ∷ qs)
-    new t u z i n r = rw (t, u) (record {
-      entries = r .entries ∙ ap₂ (λ (x : List Entry) (y : List ℕ). x ++ map (ledBy lead) (fresh y qs)) i n
-          ∙ append-assoc (entriesSeen l) (ledBy lead q ∷ []) _ ∙ ap (λ (x : List ℕ). entriesSeen l ++ map (ledBy lead) x) (sym z);
-      next = r .next;
-      sized = r .sized;
-    })
-
-    go : AmongIs q (rows (l .count) (entryAt l)) → ((k : Entries) → Sized k → k .count + length (fresh (names (entriesSeen k)) qs) ≤ 16 → Grown k (addAll k lead qs) lead qs)
-        → Grown l (addAll (addOne l lead q) lead qs) lead (q ∷ qs)
-    go (inl y) rest =
-        let z = fresh-had ns q qs (rw (names-rows l) (y .0)) in
-        had (y .1) z (rest l s (rw z at h))
-    go (inr y) rest =
-        let z = fresh-new ns q qs (λ x. y .0 (rw (names-rows l) at x)) in
-        let c : l .count + suc (length (fresh (ns ++ q ∷ []) qs)) ≤ 16 = rw z at h in
-        let room : l .count < 16 = omega arith in
-        let i = longer-entries l q lead s room in
-        let n : names (entriesSeen l′) ≡ ns ++ q ∷ [] = ap names i ∙ names-snoc (entriesSeen l) lead q in
-        new (y .1) (lt-ltb (l .count) 16 room) z i n (rest l′ (longer-sized l q lead s) (rw n (omega arith)))
+      new : listed l q ≡ false → Added (addOne l lead q) (fresh (names (entriesSeen (addOne l lead q))) qs) → entriesSeen (addAll (addOne l lead q) lead qs) ≡ entriesSeen l ++ map (ledBy lead) (fresh ns (q ∷ qs))
+      new t r =
+          let room = room-for l q g (f q (inl refl)) t in
+          let i : entriesSeen (addOne l lead q) ≡ entriesSeen l ++ ledBy lead q ∷ [] = ap entriesSeen (addOne-new l lead q t room) ∙ longer-entries l q lead c g room in
+          let z = fresh-new ns q qs (λ x. among-not q (rows (l .count) (entryAt l)) t (has-from q (rows (l .count) (entryAt l)) (rw (names-rows l) at x))) in
+          r ∙ ap₂ (λ (x : List Entry) (y : List ℕ). x ++ map (ledBy lead) (fresh y qs)) i (ap names i ∙ map-append (λ (e : Entry). e .who) (entriesSeen l) (ledBy lead q ∷ []))
+          ∙ append-assoc (entriesSeen l) (ledBy lead q ∷ []) _ ∙ ap (λ (x : List ℕ). entriesSeen l ++ map (ledBy lead) x) (sym z)
 
 -- ---- the ring along the leads
-along-on : (d : ℕ) (l : Entries) (j : ℕ) → leadAt l j < j → alongLeads (suc d) l j ≡ alongLeads d l (leadAt l j) ++ entryAt l j ∷ []
-unfolding alongLeads
-along-on d l j h = rw (lt-ltb (leadAt l j) j h, alongLeads)
-
-along-stop : (d : ℕ) (l : Entries) (j : ℕ) → j ≡ 0 → alongLeads (suc d) l j ≡ entryAt l j ∷ []
-unfolding alongLeads
-along-stop d l j e = rw (le-ltb (leadAt l j) j (omega arith), alongLeads)
-
 pub along-view : (d : ℕ) (l : Entries) (j : ℕ) (acc : List ℕ) → j ≤ d → j < l .count → ((j : ℕ) → 0 < j → j < l .count → leadAt l j < j)
     → alongLeads d l j ++ acc ≡ alongLeadsM d (entriesSeen l) j acc
 unfolding alongLeads alongLeadsM
 along-view zero l j acc h c f = rw (rows-at (l .count) (λ k. ledBy (leadAt l k) (entryAt l k)) j _ c)
-along-view (suc d) l j acc h c f = elim (ℕ-discrete j 0) [
-  | yes e ↦ rw (along-stop d l j e) (rw (rows-at (l .count) (λ k. ledBy (leadAt l k) (entryAt l k)) j _ c) (sym (if-pos (ℕ-discrete j 0) e _ _)))
+along-view (suc d) l j acc h c f = rw (rows-at (l .count) (λ k. ledBy (leadAt l k) (entryAt l k)) j _ c) (elim (ℕ-discrete j 0) [
+  | yes e ↦ rw (alongLeads, le-ltb (leadAt l j) j (omega arith)) (sym (if-pos (ℕ-discrete j 0) e _ _))
   | no n ↦
       let g = f j (omega arith) c in
-      rw (along-on d l j g) (append-assoc (alongLeads d l (leadAt l j)) (entryAt l j ∷ []) acc ∙ along-view d l (leadAt l j) (entryAt l j ∷ acc) (omega arith) (omega arith) f
-      ∙ rw (rows-at (l .count) (λ k. ledBy (leadAt l k) (entryAt l k)) j _ c) (sym (if-neg (ℕ-discrete j 0) n _ _)))
-]
+      rw (alongLeads, lt-ltb (leadAt l j) j g) (append-assoc (alongLeads d l (leadAt l j)) (entryAt l j ∷ []) acc ∙ along-view d l (leadAt l j) (entryAt l j ∷ acc) (omega arith) (omega arith) f
+      ∙ sym (if-neg (ℕ-discrete j 0) n _ _))
+])
 
 -- ---- a ring's place
 abbrev pub ringSeen : Ring → List ℕ
@@ -164,33 +135,13 @@ keeping-view r ps = go (r .count) refl
     go (suc n) e = rw (ne-eqb (r .count) 0 (omega arith)) (ap full e ∙ sym (ap (λ (n : ℕ). keepFilled (full n) ps) e ∙ kept n))
 
 -- ---- a list that starts
-module _ (p : ℕ) (qs : List ℕ) (fits : 1 + length (fresh (p ∷ []) qs) ≤ 16) where
-  first : Entries
-  first = addAll (starter p) 0 qs
-
-  first-grown : Grown (starter p) first 0 qs
-  unfolding first rows
-  first-grown = add-view qs (starter p) 0 (record { who = refl; leads = refl }) fits
-
-  first-entries : entriesSeen first ≡ ledBy 0 p ∷ map (ledBy 0) (fresh (p ∷ []) qs)
-  unfolding rows added
-  first-entries = first-grown .entries
-
-  first-count : first .count ≡ suc (length (fresh (p ∷ []) qs))
-  first-count = sym (entries-count first) ∙ ap length first-entries ∙ ap suc (length-map (fresh (p ∷ []) qs) (ledBy 0))
-
-  ends : fresh (p ∷ []) qs ≡ [] → started p qs ≡ nothing
-  unfolding started first
-  ends e = let c : first .count ≡ 1 = first-count ∙ ap (λ (l : List ℕ). suc (length l)) e in rw (le-ltb 1 (addAll (starter p) 0 qs .count) (omega arith))
-
-  goes : (q : ℕ) (l : List ℕ) → fresh (p ∷ []) qs ≡ q ∷ l → started p qs ≡ toHome first
-  unfolding started first
-  goes q l e = let c : first .count ≡ suc (suc (length l)) = first-count ∙ ap (λ (l : List ℕ). suc (length l)) e in rw (lt-ltb 1 (addAll (starter p) 0 qs .count) (omega arith))
-
+module _ (p c : ℕ) (qs : List ℕ) (below : p < c) (low : c ≤ 16) (each : (q : ℕ) → Among q qs → q < c) where
   pub start-none : fresh (p ∷ []) qs ≡ [] → sentSeen (started p qs) ≡ none
-  start-none e = rw (ends e)
+  start-none e = ap sentSeen (started-none p qs (λ q h. ⊎-elim (⊎-elim (λ z. sym z) (λ z. absurd z)) (λ a. absurd (rw e at a)) (fresh-all (p ∷ []) qs q (has-to q qs h))))
 
-  pub start-some : (q : ℕ) (l : List ℕ) → fresh (p ∷ []) qs ≡ q ∷ l → (sentSeen (started p qs) ≡ some (list (ledBy 0 p ∷ map (ledBy 0) (q ∷ l)) 1 none)) × Sized (started p qs .list)
+  pub start-some : (q : ℕ) (l : List ℕ) → fresh (p ∷ []) qs ≡ q ∷ l → sentSeen (started p qs) ≡ some (list (ledBy 0 p ∷ map (ledBy 0) (q ∷ l)) 1 none)
+  unfolding rows added
   start-some q l e =
-      let es = first-entries ∙ ap (λ (y : List ℕ). ledBy 0 p ∷ map (ledBy 0) y) e in
-      rw (goes q l e) (ap₂ (λ (x : List Entry) (n : ℕ). some (list x n none)) es (first-grown .next), first-grown .sized)
+      let h = fresh-in (p ∷ []) qs q (rw e (inl refl)) in
+      rw (started-some p qs q (has-from q qs (h .0)) (λ z. h .1 (inl (sym z))))
+      (ap₂ (λ (x : List Entry) (n : ℕ). some (list x n none)) (add-view c 0 low qs (starter p) (omega arith) (starter-growing p c below) each ∙ ap (λ (y : List ℕ). ledBy 0 p ∷ map (ledBy 0) y) e) (started-next p qs))

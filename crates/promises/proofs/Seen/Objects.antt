@@ -1,25 +1,27 @@
 -- An object's book: whom one in its line waits for, and how a request and a release change it. The rules and the model agree.
 use mathlib.Core.Path.{_≡_, refl, ap, ap₂, sym, _∙_, fun-ext, subst}
 use mathlib.Core.Logic.{_≢_}
-use mathlib.Core.Bool.{Bool, true, false, not}
+use mathlib.Core.Bool.{Bool, true, false, not, _&&_}
 use mathlib.Core.Option.{Option, none, some}
-use mathlib.Core.List.{List, [], _∷_, _++_, map}
-use Prim.Native.Nat.{ℕ, zero, suc, _-_, _<_}
+use mathlib.Core.List.{List, [], _∷_, _++_, map, map-append}
+use Prim.Native.Nat.{ℕ, zero, suc, _<_}
 use native.Mathlib.Omega.{arith}
 use native.Mathlib.Decide.{ℕ-discrete}
+use lib.Dec.{eqb}
 use lib.ListN.{length}
 use borrow.Author.Tests.{eq-eqb, ne-eqb}
 use Rattle.rules.specs.declared.Object.{Object}
 use Rattle.rules.specs.declared.Mode.{Mode}
+use Rattle.rules.specs.declared.Mode.the-variants.{Shared, Exclusive}
 use Rattle.rules.specs.Bits.{withoutBit, marked}
-use Rattle.rules.specs.Tables.{pick, either, rows, collect, nobody}
-use Rattle.rules.specs.Book.{isExclusive, holdIn, against, holderAt, rival, rivals, clear, held, struck, whoAt, modeAt, placeIn, joined, withoutFront, ahead, waitedFor, Settled, grantedFirst, frontGranted, settled, releaseArrives}
-use Rattle.rules.proofs.Tables.{rows-front, rows-ext, collect-ext}
-use Rattle.rules.proofs.Book.{noted-same, noted-other, dropped-same, dropped-other, joined-holder, joined-count, joined-who, joined-mode, joined-who-other, joined-mode-other, front-left-who, front-left-mode, front-left-size}
+use Rattle.rules.specs.Tables.{pick, rows, collect, nobody}
+use Rattle.rules.specs.Book.{isExclusive, conflict, holdIn, against, holderAt, rival, rivals, clear, held, struck, whoAt, modeAt, joined, withoutFront, ahead, waitedFor, Settled, grantedFirst, frontGranted, settled, releaseArrives}
+use Rattle.rules.proofs.Tables.{rows-map, collect-ext}
+use Rattle.rules.proofs.Book.{noted-same, noted-other, dropped-same, dropped-other, lineOf, joined-holder, joined-count, joined-who, joined-mode, joined-who-other, joined-mode-other, joined-line, front-left-line}
 use Rattle.model.specs.Lists.{isEmpty}
 use Rattle.model.specs.Tables.{put}
-use Rattle.model.specs.Book.{Waiter, Line, standing, modeIn, onlyIf, settle, strike, grantThen, holderAgainst, holdersAgainst, conflict as conflictM, clear as clearM, waitedFor as waitedForM, Settled as SettledM}
-use Rattle.promises.proofs.Seen.Tables.{rows-snoc, pick-conflict, those, Stand, stands, away, place-view, join-mode, join-ahead, put-view}
+use Rattle.model.specs.Book.{Waiter, Line, Holders, standing, modeIn, settle, strike, grantThen, holderAgainst, holdersAgainst, conflict as conflictM, clear as clearM, waitedFor as waitedForM, Settled as SettledM}
+use Rattle.promises.proofs.Seen.Tables.{pick-conflict, those, stand-mode, stand-ahead, away-mode, put-view}
 use Rattle.promises.proofs.Seen.{holdSeen, holdersSeen, exclusiveAt, lineSeen}
 
 -- ---- a hold noted, and a hold struck
@@ -31,44 +33,26 @@ module _ (s x k : ℕ) where
   dropped = put-view _ _ k _ (ap holdSeen (dropped-same s x k)) (λ j e. ap holdSeen (dropped-other s x k j e))
 
 -- ---- who holds in conflict
-pub either-conflict : (m n : Bool) → either m n ≡ conflictM m n
-either-conflict true n = refl
-either-conflict false n = refl
+pub conflict-view : (m n : Mode) → conflict m n ≡ conflictM (isExclusive m) (isExclusive n)
+conflict-view Shared n = refl
+conflict-view Exclusive n = refl
 
 module _ (o : Object) (p : ℕ) (m : Mode) where
   one-rival : (k : ℕ) → pick (rival o p m k) (k ∷ []) [] ≡ holderAgainst (ℕ-discrete k p) (holdersSeen o k) (isExclusive m) k
   unfolding rival
-  one-rival k = elim (ℕ-discrete k p) [
-    | yes e ↦ rw (eq-eqb k p e) (sym (own (ℕ-discrete k p) e))
-    | no f ↦ rw (ne-eqb k p f) (inner (holderAt o k) ∙ sym (other (ℕ-discrete k p) f))
-  ]
+  one-rival k = go (ℕ-discrete k p) (holderAt o k)
     where
-      own : (d : Dec (k ≡ p)) → k ≡ p → holderAgainst d (holdersSeen o k) (isExclusive m) k ≡ []
-      own (yes z) e = refl
-      own (no f) e = absurd (f e)
-
-      by : Option Bool → List ℕ
-      by none = []
-      by (some n) = onlyIf (conflictM (isExclusive m) n) k
-
-      other : (d : Dec (k ≡ p)) → k ≢ p → holderAgainst d (holdersSeen o k) (isExclusive m) k ≡ by (holdersSeen o k)
-      other (yes z) f = absurd (f z)
-      other (no z) f = go (holdersSeen o k)
-        where
-          go : (x : Option Bool) → holderAgainst {P = k ≡ p} (no z) x (isExclusive m) k ≡ by x
-          go none = refl
-          go (some n) = refl
-
-      inner : (x : Option Mode) → pick (against m x) (k ∷ []) [] ≡ by (holdSeen x)
-      inner none = refl
-      inner (some n) = rw (either-conflict (isExclusive m) (isExclusive n)) (pick-conflict (isExclusive m) (isExclusive n) k)
+      go : (d : Dec (k ≡ p)) (x : Option Mode) → pick (not (eqb k p) && against m x) (k ∷ []) [] ≡ holderAgainst d (holdSeen x) (isExclusive m) k
+      go (yes e) x = rw (eq-eqb k p e)
+      go (no f) none = rw (ne-eqb k p f)
+      go (no f) (some n) = rw (ne-eqb k p f, conflict-view m n) (pick-conflict (isExclusive m) (isExclusive n) k)
 
   rivals-below : (n : ℕ) → collect (rival o p m) (λ q. q) n ≡ holdersAgainst n (holdersSeen o) p (isExclusive m)
   unfolding collect holdersAgainst
   rivals-below zero = refl
   rivals-below (suc n) = ap₂ (λ (a b : List ℕ). a ++ b) (rivals-below n) (one-rival n)
 
-  pub rivals-view : rivals o p m ≡ holdersAgainst 16 (holdersSeen o) p (isExclusive m)
+  rivals-view : rivals o p m ≡ holdersAgainst 16 (holdersSeen o) p (isExclusive m)
   unfolding rivals
   rivals-view = rivals-below 16
 
@@ -83,72 +67,72 @@ module _ (o : Object) (p : ℕ) (m : Mode) where
 -- those ahead, none of whom is p
 ahead-view : (o : Object) (p : ℕ) (m : Mode) (at : ℕ) → ((k : ℕ) → k < at → whoAt o k ≢ p) → ahead o p m at ≡ those (isExclusive m) at (whoAt o) (exclusiveAt o)
 unfolding ahead
-ahead-view o p m at f = collect-ext _ _ _ _ at (λ k h. rw (ne-eqb (whoAt o k) p (f k h)) (either-conflict (isExclusive m) (exclusiveAt o k))) (λ k h. refl)
-
--- ---- whom a process in the line waits for
-pub data Place (o : Object) (q : ℕ) : Type 0 where
-  inside : placeIn o q < o .«line_count» → modeIn q (lineSeen o) ≡ some (exclusiveAt o (placeIn o q))
-      → waitedFor o q (modeAt o (placeIn o q)) (placeIn o q) ≡ waitedForM (holdersSeen o) (lineSeen o) q → Place o q
-  outside : placeIn o q ≡ o .«line_count» → modeIn q (lineSeen o) ≡ none → Place o q
-
-pub waited-view : (o : Object) (q : ℕ) → Place o q
-unfolding placeIn waitedFor waitedForM
-waited-view o q = go (place-view (exclusiveAt o at) (o .«line_count») (whoAt o) (exclusiveAt o) q)
-  where
-    at : ℕ
-    at = placeIn o q
-
-    go : Stand (exclusiveAt o at) (o .«line_count») (whoAt o) (exclusiveAt o) q at → Place o q
-    go (stands h e b f) = inside h e (rw e (ap₂ (λ (a c : List ℕ). a ++ c) (rivals-view o q (modeAt o at)) (ahead-view o q (modeAt o at) at f ∙ sym b)))
-    go (away h e) = outside h e
-
--- a process that stands nowhere joins
-pub join-view : (o : Object) (p : ℕ) (m : Mode) → ((k : ℕ) → k < o .«line_count» → whoAt o k ≢ p)
-    → waitedFor o p m (o .«line_count») ≡ waitedForM (holdersSeen o) (lineSeen o ++ standing p (isExclusive m) ∷ []) p
-unfolding waitedFor waitedForM
-join-view o p m f = rw (join-mode (isExclusive m) p (o .«line_count») (whoAt o) (exclusiveAt o) f)
-    (ap₂ (λ (a c : List ℕ). a ++ c) (rivals-view o p m) (ahead-view o p m _ f ∙ sym (join-ahead (isExclusive m) p (o .«line_count») (whoAt o) (exclusiveAt o) f)))
+ahead-view o p m at f = collect-ext _ _ _ _ at (λ k h. rw (ne-eqb (whoAt o k) p (f k h)) (conflict-view m (modeAt o k))) (λ k h. refl)
 
 -- ---- the book written
+abbrev pub waiterOf : ℕ × Mode → Waiter
+waiterOf g = standing (g .0) (isExclusive (g .1))
+
+line-view : (o : Object) → map waiterOf (lineOf o) ≡ lineSeen o
+line-view o = rows-map waiterOf (o .«line_count») _
+
 pub held-view : (o : Object) (p : ℕ) (m : Mode) → holdersSeen (held o p m) ≡ put (holdersSeen o) p (some (isExclusive m))
 held-view o p m = noted (o .shared) (o .exclusive) p m
 
 pub joined-seen : (o : Object) (p : ℕ) (m : Mode) → length (o .line) ≡ 16 → o .«line_count» < 16 → lineSeen (joined o p m) ≡ lineSeen o ++ standing p (isExclusive m) ∷ []
-joined-seen o p m s h = rw (joined-count o p m h) (rows-snoc (o .«line_count») _ _ _
-    (λ k l. ap₂ (λ (q : ℕ) (n : Mode). standing q (isExclusive n)) (joined-who-other o p m h k (omega arith)) (joined-mode-other o p m h k (omega arith)))
-    (ap₂ (λ (q : ℕ) (n : Mode). standing q (isExclusive n)) (joined-who o p m h s) (joined-mode o p m h)))
+joined-seen o p m s h = sym (line-view (joined o p m)) ∙ ap (map waiterOf) (joined-line o p m h s) ∙ map-append waiterOf (lineOf o) ((p, m) ∷ []) ∙ ap (λ (l : Line). l ++ standing p (isExclusive m) ∷ []) (line-view o)
 
 pub joined-holders : (o : Object) (p : ℕ) (m : Mode) → holdersSeen (joined o p m) ≡ holdersSeen o
 joined-holders o p m = fun-ext (λ q. ap holdSeen (joined-holder o p m q))
 
-front-line : (o : Object) (n : ℕ) → o .«line_count» ≡ suc n → lineSeen o ≡ standing (whoAt o 0) (exclusiveAt o 0) ∷ lineSeen (withoutFront o)
-front-line o n e =
-    let z : suc n - 1 ≡ n = omega arith in
-    rw (e, z) (rows-front n _ ∙ ap (λ (l : Line). standing (whoAt o 0) (exclusiveAt o 0) ∷ l)
-    (rows-ext n _ _ (λ k h. ap₂ (λ (q : ℕ) (m : Mode). standing q (isExclusive m)) (sym (front-left-who o k)) (sym (front-left-mode o k)))))
+-- ---- whom a process in the line waits for
+module _ (o : Object) (q : ℕ) where
+  -- at place k, and at no earlier one
+  pub place-view : (k : ℕ) → k < o .«line_count» → ((j : ℕ) → j < k → whoAt o j ≢ q) → whoAt o k ≡ q
+      → (modeIn q (lineSeen o) ≡ some (exclusiveAt o k)) × (waitedFor o q (modeAt o k) k ≡ waitedForM (holdersSeen o) (lineSeen o) q)
+  unfolding waitedFor waitedForM
+  place-view k h f e =
+      let z = stand-mode q (o .«line_count») (whoAt o) (exclusiveAt o) k h f e in
+      (z, rw z (ap₂ (λ (a c : List ℕ). a ++ c) (rivals-view o q (modeAt o k)) (ahead-view o q (modeAt o k) k f ∙ sym (stand-ahead q (exclusiveAt o k) (o .«line_count») (whoAt o) (exclusiveAt o) k h f e))))
+
+  pub away-view : ((k : ℕ) → k < o .«line_count» → whoAt o k ≢ q) → modeIn q (lineSeen o) ≡ none
+  away-view f = away-mode q (o .«line_count») (whoAt o) (exclusiveAt o) f
+
+-- a process that stands nowhere joins: it waits for all ahead that conflict
+pub join-view : (o : Object) (p : ℕ) (m : Mode) → length (o .line) ≡ 16 → o .«line_count» < 16 → ((k : ℕ) → k < o .«line_count» → whoAt o k ≢ p)
+    → waitedFor o p m (o .«line_count») ≡ waitedForM (holdersSeen o) (lineSeen o ++ standing p (isExclusive m) ∷ []) p
+unfolding waitedFor rivals rival ahead
+join-view o p m s h f =
+    let n = o .«line_count» in
+    let y = joined o p m in
+    let who : (k : ℕ) → k < n → whoAt y k ≡ whoAt o k = λ k l. joined-who-other o p m h k (omega arith) in
+    let v = place-view y p n (omega (arith, joined-count o p m h)) (λ k l e. f k l (sym (who k l) ∙ e)) (joined-who o p m h s) .1 in
+    sym (ap₂ (λ (a c : List ℕ). a ++ c)
+    (collect-ext _ _ _ _ 16 (λ q l. ap (λ (x : Option Mode). not (eqb q p) && against m x) (joined-holder o p m q)) (λ q l. refl))
+    (collect-ext _ _ _ _ n (λ k l. ap₂ (λ (q : ℕ) (x : Mode). not (eqb q p) && conflict m x) (who k l) (joined-mode-other o p m h k (omega arith))) who))
+    ∙ (rw (joined-mode o p m h) at v) ∙ ap₂ (λ (a : Holders) (l : Line). waitedForM a l p) (joined-holders o p m) (joined-seen o p m s h)
 
 -- ---- the release
-abbrev pub waiterOf : ℕ × Mode → Waiter
-waiterOf g = standing (g .0) (isExclusive (g .1))
+front-line : (o : Object) (n : ℕ) → o .«line_count» ≡ suc n → lineSeen o ≡ standing (whoAt o 0) (exclusiveAt o 0) ∷ lineSeen (withoutFront o)
+front-line o n e = sym (line-view o) ∙ ap (map waiterOf) (front-left-line o n e) ∙ ap (λ (l : Line). standing (whoAt o 0) (exclusiveAt o 0) ∷ l) (line-view (withoutFront o))
 
 pub record Same (l : Settled) (s : SettledM) : Type 0 where
   pub holders : holdersSeen (l .object) ≡ s .holders
   pub line : lineSeen (l .object) ≡ s .line
   pub grants : map waiterOf (l .grants) ≡ s .grants
-  pub size : length (l .object .line) ≡ 16
 
 more-same : (g : ℕ × Mode) (l : Settled) (s : SettledM) → Same l s → Same (grantedFirst g l) (grantThen (waiterOf g) s)
-more-same g l s k = record { holders = k .holders; line = k .line; grants = ap (λ (y : Line). waiterOf g ∷ y) (k .grants); size = k .size }
+more-same g l s k = record { holders = k .holders; line = k .line; grants = ap (λ (y : Line). waiterOf g ∷ y) (k .grants) }
 
 empty-line : (o : Object) → o .«line_count» ≡ 0 → lineSeen o ≡ []
 unfolding rows
 empty-line o e = ap (λ (n : ℕ). rows n (λ k. standing (whoAt o k) (exclusiveAt o k))) e
 
-pub settled-view : (n : ℕ) (o : Object) → o .«line_count» ≡ n → length (o .line) ≡ 16 → Same (settled n o) (settle (holdersSeen o) (lineSeen o))
+settled-view : (n : ℕ) (o : Object) → o .«line_count» ≡ n → Same (settled n o) (settle (holdersSeen o) (lineSeen o))
 unfolding settled settle rows
-settled-view zero o e s = subst (λ (l : Line). Same (settled 0 o) (settle (holdersSeen o) l)) (sym (empty-line o e)) (record { holders = refl; line = empty-line o e; grants = refl; size = s })
-settled-view (suc n) o e s =
-    rw (front-line o n e) (go (clear o (whoAt o 0) (modeAt o 0)) (clear-view o (whoAt o 0) (modeAt o 0)) (settled-view n (frontGranted o) (omega arith) (front-left-size o s)))
+settled-view zero o e = subst (λ (l : Line). Same (settled 0 o) (settle (holdersSeen o) l)) (sym (empty-line o e)) (record { holders = refl; line = empty-line o e; grants = refl })
+settled-view (suc n) o e =
+    rw (front-line o n e) (go (clear o (whoAt o 0) (modeAt o 0)) (clear-view o (whoAt o 0) (modeAt o 0)) (settled-view n (frontGranted o) (omega arith)))
   where
     l : Line
     l = lineSeen (withoutFront o)
@@ -159,8 +143,8 @@ settled-view (suc n) o e s =
     go : (t : Bool) → t ≡ clearM (holdersSeen o) (whoAt o 0) (exclusiveAt o 0) → Same (settled n (frontGranted o)) (settle (holdersSeen (frontGranted o)) l)
         → Same (elim t [ true ↦ grantedFirst (whoAt o 0, modeAt o 0) (settled n (frontGranted o)) | false ↦ record { object = o; grants = [] } ]) (settle (holdersSeen o) (a ∷ l))
     go true z k = rw (← z, settle) (more-same (whoAt o 0, modeAt o 0) _ _ (rw (held-view o (whoAt o 0) (modeAt o 0)) at k))
-    go false z k = rw (← z, settle) (record { holders = refl; line = front-line o n e; grants = refl; size = s })
+    go false z k = rw (← z, settle) (record { holders = refl; line = front-line o n e; grants = refl })
 
-pub release-same : (o : Object) (p : ℕ) → length (o .line) ≡ 16 → Same (releaseArrives o p) (strike (holdersSeen o) (lineSeen o) p)
+pub release-same : (o : Object) (p : ℕ) → Same (releaseArrives o p) (strike (holdersSeen o) (lineSeen o) p)
 unfolding releaseArrives strike
-release-same o p s = rw (dropped (o .shared) (o .exclusive) p) at (settled-view (o .«line_count») (struck o p) refl s)
+release-same o p = rw (dropped (o .shared) (o .exclusive) p) at (settled-view (o .«line_count») (struck o p) refl)

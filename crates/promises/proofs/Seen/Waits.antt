@@ -1,39 +1,33 @@
 -- The waits and rings over the books are the model's.
 use mathlib.Core.Path.{_≡_, refl, ap, sym, _∙_, subst}
-use mathlib.Core.Logic.{_⊎_, inl, inr, ⊎-elim}
+use mathlib.Core.Logic.{inl, inr, ⊎-elim}
 use mathlib.Core.Bool.{Bool}
 use mathlib.Core.Option.{Option, none, some}
 use mathlib.Core.List.{List, [], _∷_}
 use Prim.Native.Nat.{ℕ, zero, suc, _<_}
 use native.Mathlib.Omega.{arith}
 use Rattle.rules.specs.declared.Mode.{Mode}
-use Rattle.rules.specs.declared.Mode.the-variants.{Shared, Exclusive}
 use Rattle.rules.specs.declared.Board.{Board}
 use Rattle.rules.specs.Tables.{rows}
-use Rattle.rules.specs.Book.{isExclusive, conflict, whoAt, modeAt}
+use Rattle.rules.specs.Book.{isExclusive, modeIf, whoAt, modeAt}
 use Rattle.rules.specs.Board.{objectAt}
-use Rattle.rules.specs.Waits.{Stands, Waits, holder, ahead, Among, Different, Chain, IsRing}
+use Rattle.rules.specs.Waits.{Stands, Waits, holder, ahead, Different, Chain, IsRing}
 use Rattle.rules.proofs.Tables.{rows-front}
-use Rattle.model.specs.Lists.{Has, Distinct}
-use Rattle.model.specs.Book.{standing, In, Ahead, conflict as conflictM, held as heldM, ahead as aheadM}
+use Rattle.rules.proofs.Book.{mode-if}
+use Rattle.model.specs.Lists.{Distinct}
+use Rattle.model.specs.Book.{standing, In, Ahead, held as heldM, ahead as aheadM}
 use Rattle.model.specs.Board.{Waits as WaitsM}
 use Rattle.model.specs.Rings.{Chain as ChainM, IsRing as IsRingM}
 use Rattle.model.proofs.Tables.{some-not-none}
-use Rattle.promises.proofs.Seen.Tables.{in-line}
+use Rattle.promises.proofs.Seen.Tables.{in-line, has-to, has-from}
 use Rattle.promises.proofs.Seen.{holdSeen, exclusiveAt, lineSeen, seen}
-use Rattle.promises.proofs.Seen.Objects.{either-conflict}
+use Rattle.promises.proofs.Seen.Objects.{conflict-view}
 
 -- ---- modes
 pub same-mode : (m n : Mode) → isExclusive m ≡ isExclusive n → m ≡ n
-same-mode Shared Shared e = refl
-same-mode Exclusive Exclusive e = refl
-same-mode Shared Exclusive e = let z : _≡_ {A = ℕ} 0 1 = cc in absurd (omega arith)
-same-mode Exclusive Shared e = let z : _≡_ {A = ℕ} 0 1 = cc in absurd (omega arith)
+same-mode m n e = sym (mode-if m) ∙ ap modeIf e ∙ mode-if n
 
-pub conflict-view : (m n : Mode) → conflict m n ≡ conflictM (isExclusive m) (isExclusive n)
-conflict-view m n = either-conflict (isExclusive m) (isExclusive n)
-
-pub hold-from : (x : Option Mode) (y : Bool) → holdSeen x ≡ some y → (m : Mode) × (x ≡ some m) × (isExclusive m ≡ y)
+hold-from : (x : Option Mode) (y : Bool) → holdSeen x ≡ some y → (m : Mode) × (x ≡ some m) × (isExclusive m ≡ y)
 hold-from none y e = some-not-none (holdSeen none) y e refl
 hold-from (some m) y e = (m, refl, cc)
 
@@ -46,10 +40,7 @@ module _ (p : ℕ) (m : Bool) where
   in-from : (n : ℕ) (w : ℕ → ℕ) (c : ℕ → Bool) → In p m (rows n (λ k. standing (w k) (c k))) → (k : ℕ) × (k < n) × (w k ≡ p) × (c k ≡ m)
   unfolding rows
   in-from zero w c h = absurd h
-  in-from (suc n) w c h = ⊎-elim (λ a. (0, omega arith, a .0, a .1)) (λ a. let r = in-from n (λ k. w (suc k)) (λ k. c (suc k)) a in (suc (r .0), omega arith, r .2, r .3)) (cast h)
-    where
-      cast : In p m (rows (suc n) (λ k. standing (w k) (c k))) → ((w 0 ≡ p) × (c 0 ≡ m)) ⊎ In p m (rows n (λ k. standing (w (suc k)) (c (suc k))))
-      cast h = subst (In p m) (rows-front n (λ k. standing (w k) (c k))) h
+  in-from (suc n) w c h = ⊎-elim (λ a. (0, omega arith, a .0, a .1)) (λ a. let r = in-from n (λ k. w (suc k)) (λ k. c (suc k)) a in (suc (r .0), omega arith, r .2, r .3)) (rw (rows-front n (λ k. standing (w k) (c k))) at h)
 
   abbrev Before : ℕ → Bool → ℕ → (ℕ → ℕ) → (ℕ → Bool) → Type 0
   Before q x n w c = (j : ℕ) × (k : ℕ) × (j < k) × (k < n) × (w j ≡ q) × (c j ≡ x) × (w k ≡ p) × (c k ≡ m)
@@ -60,11 +51,7 @@ module _ (p : ℕ) (m : Bool) where
   ahead-from q x (suc n) w c h = ⊎-elim
       (λ a. let r = in-from n (λ k. w (suc k)) (λ k. c (suc k)) (a .1) in (0, suc (r .0), omega arith, omega arith, a .0 .0, a .0 .1, r .2, r .3))
       (λ a. let r = ahead-from q x n (λ k. w (suc k)) (λ k. c (suc k)) a in (suc (r .0), suc (r .1), omega arith, omega arith, r .4, r .5, r .6, r .7))
-      (cast h)
-    where
-      cast : Ahead p m q x (rows (suc n) (λ k. standing (w k) (c k)))
-          → (((w 0 ≡ q) × (c 0 ≡ x)) × In p m (rows n (λ k. standing (w (suc k)) (c (suc k))))) ⊎ Ahead p m q x (rows n (λ k. standing (w (suc k)) (c (suc k))))
-      cast h = subst (Ahead p m q x) (rows-front n (λ k. standing (w k) (c k))) h
+      (rw (rows-front n (λ k. standing (w k) (c k))) at h)
 
 ahead-to : (n : ℕ) (w : ℕ → ℕ) (c : ℕ → Bool) (j k : ℕ) → j < k → k < n → Ahead (w k) (c k) (w j) (c j) (rows n (λ k. standing (w k) (c k)))
 ahead-to zero w c j k h l = absurd (omega arith)
@@ -111,14 +98,6 @@ module _ (b : Board) where
       ahead o (r .1) (r .0) (s .0) (g .0) ne (s .2) (r .2) (g .2) (conflict-view (s .0) (g .0) ∙ rw (s .1, g .1) c)
 
   -- ---- the rings
-  has-to : (x : ℕ) (l : List ℕ) → Among x l → Has x l
-  has-to x (y ∷ l) (inl e) = inl e
-  has-to x (y ∷ l) (inr e) = inr (has-to x l e)
-
-  pub has-from : (x : ℕ) (l : List ℕ) → Has x l → Among x l
-  has-from x (y ∷ l) (inl e) = inl e
-  has-from x (y ∷ l) (inr e) = inr (has-from x l e)
-
   different-to : (l : List ℕ) → Different l → Distinct l
   different-to [] d = tt
   different-to (x ∷ l) d = ((λ h. d .0 (has-from x l h)), different-to l (d .1))
