@@ -1,0 +1,76 @@
+-- The homes of an opening: each of the first is a node, and those past the count are zero.
+use mathlib.Core.Path.{_≡_, refl, sym, ap, _∙_}
+use mathlib.Core.Logic.{_≢_}
+use mathlib.Core.Bool.{Bool, true, false, not, _&&_}
+use mathlib.Core.List.{List, [], _∷_}
+use Prim.Native.Nat.{ℕ, suc, _+_, _≤_, _<_}
+use native.Mathlib.Omega.{arith}
+use native.Mathlib.Numerals.{add-one}
+use native.Mathlib.Decide.{ℕ-discrete, decLt}
+use borrow.Author.Tests.{lt-ltb, le-ltb, leb-true}
+use lib.Dec.{ltb, leb}
+use lib.ListN.{getD, set, length, length-set, replicate}
+use lib.Seq.{ext-getD, getD-set-same, getD-set-other}
+use Rattle.rules.specs.declared.Answer.{Answer}
+use Rattle.rules.specs.declared.Answer.the-variants.{CountOutside}
+use Rattle.rules.specs.Answers.{number, firstOf}
+use Rattle.rules.specs.Tables.{pick, rows, all}
+use Rattle.rules.specs.Commands.{countFits, homesOf, openingTests}
+use Rattle.rules.proofs.Tables.{rows-at, rows-length, both, both-right}
+
+-- ---- counts
+pub count-most : (n top : ℕ) → countFits n top ≡ true → n ≤ top
+count-most n top e = leb-true n top (both-right (ltb 0 n) (leb n top) e)
+
+-- an opening that is not refused has counts within their limits
+pub counts-fit : (n p o : ℕ) (hp ho : List ℕ) → number (firstOf (openingTests n p o hp ho)) ≡ 0 → (p ≤ 16) × (o ≤ 16)
+unfolding firstOf
+counts-fit n p o hp ho e = let f = go (countFits n 8) (countFits p 16) (countFits o 16) _ e in (count-most p 16 (f .0), count-most o 16 (f .1))
+  where
+    go : (t u v : Bool) (a : Answer) → number (pick (not t) CountOutside (pick (not u) CountOutside (pick (not v) CountOutside a))) ≡ 0 → (u ≡ true) × (v ≡ true)
+    go true true true a e = (refl, refl)
+    go true true false a e = absurd (omega (arith, e))
+    go true false v a e = absurd (omega (arith, e))
+    go false u v a e = absurd (omega (arith, e))
+
+-- ---- the test
+module _ (hs : List ℕ) (n : ℕ) where
+  abbrev pub isNode : ℕ → Bool
+  isNode k = ltb (getD hs k 0) n
+
+  pub none-yet : all 0 isNode ≡ true
+  unfolding all
+  none-yet = refl
+
+  pub one-more : (k : ℕ) → all k isNode ≡ true → getD hs k 0 < n → all (k + 1) isNode ≡ true
+  unfolding all
+  one-more k e h = rw add-one (both (all k isNode) (isNode k) e (lt-ltb (getD hs k 0) n h))
+
+-- ---- the homes that are kept
+module _ (hs : List ℕ) where
+  pub homes-none : homesOf 0 hs ≡ replicate 16 0
+  unfolding homesOf rows
+  homes-none = refl
+
+  home-at : (c j : ℕ) → j < 16 → getD (homesOf c hs) j 0 ≡ pick (ltb j c) (getD hs j 0) 0
+  unfolding homesOf
+  home-at c j h = rows-at 16 (λ k. pick (ltb k c) (getD hs k 0) 0) j 0 h
+
+  homes-length : (c : ℕ) → length (homesOf c hs) ≡ 16
+  unfolding homesOf
+  homes-length c = rows-length 16 (λ k. pick (ltb k c) (getD hs k 0) 0)
+
+  pub homes-more : (c : ℕ) → c < 16 → set (homesOf c hs) c (getD hs c 0) ≡ homesOf (c + 1) hs
+  homes-more c h = ext-getD 0 (set (homesOf c hs) c (getD hs c 0)) (homesOf (c + 1) hs) (length-set (homesOf c hs) c (getD hs c 0) ∙ homes-length c ∙ sym (homes-length (c + 1))) (λ j l. at j (omega (arith, l, length-set (homesOf c hs) c (getD hs c 0), homes-length c)))
+    where
+      same : (j : ℕ) → j ≢ c → ltb j c ≡ ltb j (c + 1)
+      same j f = elim (decLt j c) [
+        | yes z ↦ lt-ltb j c z ∙ sym (lt-ltb j (c + 1) (omega arith))
+        | no z ↦ le-ltb j c (omega (arith, z)) ∙ sym (le-ltb j (c + 1) (omega (arith, z, f)))
+      ]
+
+      at : (j : ℕ) → j < 16 → getD (set (homesOf c hs) c (getD hs c 0)) j 0 ≡ getD (homesOf (c + 1) hs) j 0
+      at j l = elim (ℕ-discrete j c) [
+        | yes e ↦ rw e (getD-set-same (homesOf c hs) c (getD hs c 0) 0 (omega (arith, homes-length c)) ∙ sym (home-at (c + 1) c h ∙ rw (lt-ltb c (c + 1) (omega arith))))
+        | no f ↦ getD-set-other (homesOf c hs) c j (getD hs c 0) 0 f ∙ home-at c j l ∙ ap (λ (t : Bool). pick t (getD hs j 0) 0) (same j f) ∙ sym (home-at (c + 1) j l)
+      ]

@@ -1,0 +1,9 @@
+-- Laws of the engine.
+pub mod Ready
+pub mod Granting
+pub mod Sends
+pub mod Releases
+pub mod Turns
+pub mod Packing
+pub mod Homes
+pub mod Calls

@@ -1,0 +1,231 @@
+-- A list arrives: at the home of its next entry, or at an object. It goes on, it ends, or a ring is recorded.
+use mathlib.Core.Path.{_≡_, refl, sym, ap, _∙_}
+use mathlib.Core.List.{List, []}
+use Prim.Native.Nat.{ℕ, _+_, _-_, _≤_, _<_}
+use native.Mathlib.Omega.{arith}
+use borrow.Author.Needs.{needs}
+use lib.ListN.{getD}
+use Rattle.rules.specs.declared.Kind.the-variants.{ListToHome}
+use Rattle.rules.specs.declared.Board.{Board}
+use Rattle.rules.specs.declared.Object.{Object}
+use Rattle.rules.specs.declared.Process.{Process}
+use Rattle.rules.specs.declared.Ring.{Ring}
+use Rattle.rules.specs.Lists.{noRing}
+use Rattle.rules.specs.Board.{noObject, noProcess, objectAt, processAt, ringAt, putRing, send, load}
+use Rattle.rules.specs.Commands.{delivered}
+use Rattle.rules.specs.Ranges.{LineRanged}
+use Rattle.rules.proofs.Load.{load-ring}
+use Rattle.bench.proofs.Sends.{Made, read-at, sent-none, sent-here, list-at-home, no-ring, ring-found}
+use Rattle.bench.proofs.engine.turns.Tie as tie
+use Rattle.bench.proofs.engine.turns.Proof.Loop.{Inv-loop, μ-loop, Turn, ready, less, again}
+use Rattle.bench.proofs.engine.turns.Proof.Takes.{Took, turnTook, before, numOf, toOf, listOf, freedNow, weightLeft, kind-is, kind-ranged, list-is, list-ranged, freed-is, freed-matched, freed-flights, weight-left, left-most, to-small, taking}
+
+-- ---- at the home of its next entry
+pub enum-told-2 : tie.Need-enum-told-2 Inv-loop μ-loop
+enum-told-2 c = search needs
+
+pub asked-of-requires : tie.Need-asked-of-requires Inv-loop μ-loop
+asked-of-requires c κs = list-ranged (c .before .before)
+
+pub wide-requires-8 : tie.Need-wide-requires-8 Inv-loop μ-loop
+wide-requires-8 c κs = search needs
+
+pub mul-process-3 : tie.Need-mul-process-3 Inv-loop μ-loop
+mul-process-3 c = search needs
+
+pub element-copy-out-process : tie.Need-element-copy-out-process Inv-loop μ-loop
+element-copy-out-process c = search needs
+
+pub list-at-home-requires : tie.Need-list-at-home-requires Inv-loop μ-loop
+list-at-home-requires c κs = list-ranged (c .before .before .before .before .before) .next
+
+abbrev Home : Type 0
+Home = tie.After-list-at-home Inv-loop μ-loop
+
+abbrev tookHome : Home → Took
+tookHome d = d .before .before .before .before .before .before
+
+home-arrives : (d : Home) → send (freedNow (tookHome d)) (d .list-at-home .result) ≡ delivered (before (tookHome d)) (numOf (tookHome d))
+home-arrives d =
+    let t = d .before .before .before .before .before .before in
+    list-at-home (before t) (numOf t) (freedNow t) (freed-is t) (listOf t) (list-is t) (kind-is t ListToHome (d .before .before .before .before .enum-told2 .given .1)) (d .before .before .before .asked-of .result) (getD (before t .processes) (d .before .before .wide8 .result) noProcess) (d .list-at-home .result) (d .before .before .before .asked-of .ensures .0) (ap (λ (i : ℕ). getD (before t .processes) i noProcess) (d .before .before .wide8 .ensures .0)) (d .list-at-home .ensures)
+
+pub kind-load-requires-4 : tie.Need-kind-load-requires-4 Inv-loop μ-loop
+kind-load-requires-4 c κs = search needs
+
+pub loop-less-12 : tie.Need-loop-less-12 Inv-loop μ-loop
+loop-less-12 c = less (c .before .before .before .before .before .before .before .before .before .before .before .before .before .before .before .before .before)
+
+pub loop-again-12 : tie.Need-loop-again-12 Inv-loop μ-loop
+loop-again-12 c =
+    let t = c .before .before .before .before .before .before .before .before in
+    again (turnTook t) 0 (delivered (before t) (numOf t)) (taking t) (freedNow t) (weightLeft t)
+    (sent-none (freedNow t) (weightLeft t) (weight-left t) (c .before .before .list-at-home .result) (c .before .kind-load4 .result) (c .before .kind-load4 .ensures .0) (delivered (before t) (numOf t)) (home-arrives (c .before .before)) (c .if8 .taken))
+
+pub add-weight-4 : tie.Need-add-weight-4 Inv-loop μ-loop
+add-weight-4 c = omega (arith, left-most (c .before .before .before .before .before .before .before .before), c .before .kind-load4 .ensures .1)
+
+pub mul-flight-4 : tie.Need-mul-flight-4 Inv-loop μ-loop
+mul-flight-4 c = search needs
+
+pub element-set-from-flight-4 : tie.Need-element-set-from-flight-4 Inv-loop μ-loop
+element-set-from-flight-4 c = omega (arith, to-small (c .before .before .before .before .before .before .before .before .before))
+
+pub mul-entries-2 : tie.Need-mul-entries-2 Inv-loop μ-loop
+mul-entries-2 c = search needs
+
+pub element-set-from-entries-2 : tie.Need-element-set-from-entries-2 Inv-loop μ-loop
+element-set-from-entries-2 c = omega (arith, to-small (c .before .before .before .before .before .before .before .before .before))
+
+pub cast-with-4 : tie.Need-cast-with-4 Inv-loop μ-loop
+cast-with-4 c = search needs
+
+pub with-requires-4 : tie.Need-with-requires-4 Inv-loop μ-loop
+with-requires-4 c κs = omega (arith, to-small (c .before .before .before .before .before .before .before .before .before))
+
+pub loop-less-13 : tie.Need-loop-less-13 Inv-loop μ-loop
+loop-less-13 c = less (c .before .before .before .before .before .before .before .before .before .before .before .before .before .before .before .before .before .before .before)
+
+pub loop-again-13 : tie.Need-loop-again-13 Inv-loop μ-loop
+loop-again-13 c =
+    let t = c .before .before .before .before .before .before .before .before .before .before in
+    again (turnTook t) 0 (delivered (before t) (numOf t)) (taking t) _ _
+    (sent-here (freedNow t) (weightLeft t) (weight-left t) (c .before .before .before .before .list-at-home .result) (c .before .before .before .kind-load4 .result) (c .before .before .before .kind-load4 .ensures .0) (delivered (before t) (numOf t)) (home-arrives (c .before .before .before .before))
+    (freed-flights t) (freed-matched t) (toOf t) (c .with4 .result) (t .lowest-free2 .ensures .0) (c .with4 .ensures) (to-small t) (c .before .before .if8 .left))
+
+-- ---- at an object
+pub enum-known-sort-4 : tie.Need-enum-known-sort-4 Inv-loop μ-loop
+enum-known-sort-4 c = search needs
+
+abbrev Came : Type 0
+Came = tie.After-known-told4 Inv-loop μ-loop
+
+ranged : (g : Came) → g .before .sort4 .given .0 .0 < 16
+ranged g = kind-ranged (g .before .before .before) _ (g .before .sort4 .given .1)
+
+pub wide-requires-9 : tie.Need-wide-requires-9 Inv-loop μ-loop
+wide-requires-9 c κs = search needs
+
+pub mul-list-at-object : tie.Need-mul-list-at-object Inv-loop μ-loop
+mul-list-at-object c = search needs
+
+pub element-copy-out-list-at-object : tie.Need-element-copy-out-list-at-object Inv-loop μ-loop
+element-copy-out-list-at-object c = omega (arith, ranged (c .before), c .wide9 .ensures .0)
+
+abbrev Had : Type 0
+Had = tie.After-list-at-object-arg Inv-loop μ-loop
+
+abbrev tookHad : Had → Took
+tookHad h = h .before .before .before .before .before
+
+abbrev oldOf : Had → Object
+oldOf h = getD (before (tookHad h) .objects) (h .before .wide9 .result) (record { shared = 0; exclusive = 0; line = []; «line_exclusive» = 0; «line_count» = 0 })
+
+old-is : (h : Had) → oldOf h ≡ objectAt (before (tookHad h)) (h .before .before .before .sort4 .given .0 .0)
+old-is h = read-at (before (tookHad h) .objects) (h .before .wide9 .result) (h .before .before .before .sort4 .given .0 .0) _ noObject (h .before .wide9 .ensures .0) (omega (arith, ready (turnTook (tookHad h)) .ranged .objects, ranged (h .before .before)))
+
+old-ranged : (h : Had) → LineRanged (oldOf h)
+old-ranged h = rw (old-is h) (ready (turnTook (tookHad h)) .ranged .lines (h .before .before .before .sort4 .given .0 .0))
+
+pub list-at-object-requires : tie.Need-list-at-object-requires Inv-loop μ-loop
+list-at-object-requires c κs = (list-ranged (c .before .before .before .before .before), old-ranged (c))
+
+-- ---- a ring is recorded in the starter's place
+pub element-copy-out-wide : tie.Need-element-copy-out-wide Inv-loop μ-loop
+element-copy-out-wide c = search needs
+
+pub wide-requires-10 : tie.Need-wide-requires-10 Inv-loop μ-loop
+wide-requires-10 c κs = search needs
+
+abbrev Found : Type 0
+Found = tie.After-wide10 Inv-loop μ-loop
+
+starter-small : (d : Found) → d .wide10 .result < 16
+starter-small d = omega (arith, d .wide10 .ensures .0, list-ranged (d .before .before .before .before .before .before .before .before .before .before .before) .who 0)
+
+pub mul-keeping : tie.Need-mul-keeping Inv-loop μ-loop
+mul-keeping c = search needs
+
+pub element-copy-out-keeping : tie.Need-element-copy-out-keeping Inv-loop μ-loop
+element-copy-out-keeping c = omega (arith, starter-small (c))
+
+pub keeping-requires : tie.Need-keeping-requires Inv-loop μ-loop
+keeping-requires c κs = search needs
+
+pub mul-kept : tie.Need-mul-kept Inv-loop μ-loop
+mul-kept c = search needs
+
+pub element-set-from-kept : tie.Need-element-set-from-kept Inv-loop μ-loop
+element-set-from-kept c = omega (arith, starter-small (c .before .before))
+
+pub loop-less-14 : tie.Need-loop-less-14 Inv-loop μ-loop
+loop-less-14 c = less (c .before .before .before .before .before .before .before .before .before .before .before .before .before .before .before .before .before .before .before .before .before .before)
+
+pub loop-again-14 : tie.Need-loop-again-14 Inv-loop μ-loop
+loop-again-14 c =
+    let t = c .before .before .before .before .before .before .before .before .before .before .before .before .before in
+    let h = c .before .before .before .before .before .before .before .before in
+    let d = c .before .before in
+    again (turnTook t) 0 (delivered (before t) (numOf t)) (taking t) (putRing (freedNow t) (c .before .before .wide10 .result) (c .keeping .result)) (weightLeft t)
+    (record {
+      board = ring-found (before t) (numOf t) (freedNow t) (freed-is t) (listOf t) (list-is t) (h .before .before .before .sort4 .given .0 .0) (kind-is t _ (h .before .before .before .sort4 .given .1)) (oldOf h) (c .before .before .before .before .before .before .before .list-at-object .result) (old-is h) (c .before .before .before .before .before .before .before .list-at-object .ensures)
+          (c .before .before .wide10 .result) (c .keeping .result) (getD (before t .rings) (c .before .before .wide10 .result) (record { processes = []; count = 0 })) (c .before .before .before .before .if9 .taken) (c .before .before .wide10 .ensures .0)
+          (read-at (before t .rings) (c .before .before .wide10 .result) (c .before .before .wide10 .result) _ noRing refl (omega (arith, ready (turnTook t) .ranged .rings, starter-small d))) (c .keeping .ensures);
+      weight = weight-left t ∙ sym (load-ring (freedNow t) (c .before .before .wide10 .result) (c .keeping .result));
+    })
+
+-- ---- no ring: the list goes on or ends
+abbrev Looked : Type 0
+Looked = tie.After-list-at-object Inv-loop μ-loop
+
+abbrev tookLooked : Looked → Took
+tookLooked d = d .before .before .before .before .before .before
+
+object-arrives : (d : Looked) → d .list-at-object .result .ring .count ≡ 0 → send (freedNow (tookLooked d)) (d .list-at-object .result .sent) ≡ delivered (before (tookLooked d)) (numOf (tookLooked d))
+object-arrives d z =
+    let t = d .before .before .before .before .before .before in
+    let h = d .before in
+    no-ring (before t) (numOf t) (freedNow t) (freed-is t) (listOf t) (list-is t) (h .before .before .before .sort4 .given .0 .0) (kind-is t _ (h .before .before .before .sort4 .given .1)) (oldOf h) (d .list-at-object .result) (old-is h) (d .list-at-object .ensures) z
+
+pub kind-load-requires-5 : tie.Need-kind-load-requires-5 Inv-loop μ-loop
+kind-load-requires-5 c κs = search needs
+
+pub loop-less-15 : tie.Need-loop-less-15 Inv-loop μ-loop
+loop-less-15 c = less (c .before .before .before .before .before .before .before .before .before .before .before .before .before .before .before .before .before .before .before .before .before)
+
+pub loop-again-15 : tie.Need-loop-again-15 Inv-loop μ-loop
+loop-again-15 c =
+    let t = c .before .before .before .before .before .before .before .before .before .before .before .before in
+    again (turnTook t) 0 (delivered (before t) (numOf t)) (taking t) (freedNow t) (weightLeft t)
+    (sent-none (freedNow t) (weightLeft t) (weight-left t) (c .before .before .before .before .before .before .list-at-object .result .sent) (c .before .kind-load5 .result) (c .before .kind-load5 .ensures .0) (delivered (before t) (numOf t)) (object-arrives (c .before .before .before .before .before .before) (c .before .before .before .if9 .left)) (c .if10 .taken))
+
+pub add-weight-5 : tie.Need-add-weight-5 Inv-loop μ-loop
+add-weight-5 c = omega (arith, left-most (c .before .before .before .before .before .before .before .before .before .before .before .before), c .before .kind-load5 .ensures .1)
+
+pub mul-flight-5 : tie.Need-mul-flight-5 Inv-loop μ-loop
+mul-flight-5 c = search needs
+
+pub element-set-from-flight-5 : tie.Need-element-set-from-flight-5 Inv-loop μ-loop
+element-set-from-flight-5 c = omega (arith, to-small (c .before .before .before .before .before .before .before .before .before .before .before .before .before))
+
+pub mul-entries-3 : tie.Need-mul-entries-3 Inv-loop μ-loop
+mul-entries-3 c = search needs
+
+pub element-set-from-entries-3 : tie.Need-element-set-from-entries-3 Inv-loop μ-loop
+element-set-from-entries-3 c = omega (arith, to-small (c .before .before .before .before .before .before .before .before .before .before .before .before .before))
+
+pub cast-with-5 : tie.Need-cast-with-5 Inv-loop μ-loop
+cast-with-5 c = search needs
+
+pub with-requires-5 : tie.Need-with-requires-5 Inv-loop μ-loop
+with-requires-5 c κs = omega (arith, to-small (c .before .before .before .before .before .before .before .before .before .before .before .before .before))
+
+pub loop-less-16 : tie.Need-loop-less-16 Inv-loop μ-loop
+loop-less-16 c = less (c .before .before .before .before .before .before .before .before .before .before .before .before .before .before .before .before .before .before .before .before .before .before .before)
+
+pub loop-again-16 : tie.Need-loop-again-16 Inv-loop μ-loop
+loop-again-16 c =
+    let t = c .before .before .before .before .before .before .before .before .before .before .before .before .before .before in
+    again (turnTook t) 0 (delivered (before t) (numOf t)) (taking t) _ _
+    (sent-here (freedNow t) (weightLeft t) (weight-left t) (c .before .before .before .before .before .before .before .before .list-at-object .result .sent) (c .before .before .before .kind-load5 .result) (c .before .before .before .kind-load5 .ensures .0) (delivered (before t) (numOf t)) (object-arrives (c .before .before .before .before .before .before .before .before) (c .before .before .before .before .before .if9 .left))
+    (freed-flights t) (freed-matched t) (toOf t) (c .with5 .result) (t .lowest-free2 .ensures .0) (c .with5 .ensures) (to-small t) (c .before .before .if10 .left))

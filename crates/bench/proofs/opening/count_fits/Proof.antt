@@ -1,0 +1,15 @@
+use mathlib.Core.Path.{_≡_, refl, sym, ap, _∙_}
+use borrow.Author.Tests.{eq-eqb, ne-eqb, lt-ltb, le-ltb, le-leb, lt-leb}
+use native.Mathlib.Omega.{arith}
+use Prim.Native.Nat.{_<_}
+use Rattle.bench.proofs.opening.count_fits.Statement.{statement}
+use Rattle.bench.proofs.opening.count_fits.Tie as tie
+
+returns : tie.Need-returns
+returns c = rw (c .if1 .taken)
+
+returns-2 : tie.Need-returns-2
+returns-2 c = let h : 0 < c .before .args .n = omega (arith, c .if1 .left) in rw (lt-ltb 0 (c .before .args .n) h)
+
+pub count-fits-spec : {M : Type 1} → statement M
+count-fits-spec = tie.close (tie.spec returns returns-2)

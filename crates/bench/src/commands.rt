@@ -1,0 +1,82 @@
+// One command by value: a sheet of one command through the engine.
+ghost use mathlib.Core.Path.{_≡_};
+ghost use mathlib.Core.List.{[], _∷_};
+ghost use Rattle.rules.specs.declared.Command.the-variants as Do;
+ghost use Rattle.rules.specs.Commands.{turn};
+ghost use Rattle.rules.specs.Sheet.{commandAt};
+ghost use Rattle.bench.specs.Ready.{Ready};
+use rules::Answer;
+use rules::Board;
+use rules::Stepped;
+
+// The command that two bytes stand for.
+pub fn once(b: Board, hi: u8, lo: u8) -> Stepped
+    requires { ⌜ Ready b ⌝ }
+    ensures { λ r. ⌜ r ≡ turn b (commandAt (hi ∷ lo ∷ []) 0) ⌝ }
+{
+    let s = [hi, lo];
+    let mut room = [0u8; 1];
+    let next = crate::engine::turns(b, &s, &mut room);
+    Stepped {
+        answer: crate::answer::answer_of(room[0]),
+        board: next,
+    }
+}
+
+// A number that no packed field holds is refused at once.
+pub fn request(b: Board, p: u8, o: u8, m: u8) -> Stepped
+    requires { ⌜ Ready b ⌝ }
+    ensures { λ r. ⌜ r ≡ turn b (Do.Request p o m) ⌝ }
+{
+    if b.process_count <= p {
+        return Stepped {
+            answer: Answer::NoProcess,
+            board: b,
+        };
+    }
+    if b.object_count <= o {
+        return Stepped {
+            answer: Answer::NoObject,
+            board: b,
+        };
+    }
+    if 1 < m {
+        return Stepped {
+            answer: Answer::NoMode,
+            board: b,
+        };
+    }
+    once(b, m * 64 + p * 4 + o / 4, (o % 4) * 64)
+}
+
+pub fn release(b: Board, p: u8, o: u8) -> Stepped
+    requires { ⌜ Ready b ⌝ }
+    ensures { λ r. ⌜ r ≡ turn b (Do.Release p o) ⌝ }
+{
+    if b.process_count <= p {
+        return Stepped {
+            answer: Answer::NoProcess,
+            board: b,
+        };
+    }
+    if b.object_count <= o {
+        return Stepped {
+            answer: Answer::NoObject,
+            board: b,
+        };
+    }
+    once(b, 128 + p * 4 + o / 4, (o % 4) * 64)
+}
+
+pub fn deliver(b: Board, n: u8) -> Stepped
+    requires { ⌜ Ready b ⌝ }
+    ensures { λ r. ⌜ r ≡ turn b (Do.Deliver n) ⌝ }
+{
+    if 63 < n {
+        return Stepped {
+            answer: Answer::NoMessage,
+            board: b,
+        };
+    }
+    once(b, 192 + n, 0)
+}

@@ -1,0 +1,12 @@
+// The shape of a board, asked once for each public call; the engine may then run.
+ghost use mathlib.Core.Path.{_≡_};
+ghost use mathlib.Core.Bool.{true};
+ghost use Rattle.rules.specs.Shape.{inShape};
+ghost use Rattle.bench.specs.Ready.{Ready};
+use rules::Board;
+
+pub fn is_ready(b: Board) -> bool
+    ensures { λ r. ⌜ (r ≡ inShape b) × (r ≡ true → Ready b) ⌝ }
+{
+    shape::in_shape(b)
+}

@@ -1,0 +1,142 @@
+// The board: an opening, the commands one by one, many at once, and the drain. Each is equal to its rule, on every board and for all
+// numbers. The shape of the board is asked once for each call.
+ghost use mathlib.Core.Path.{_≡_};
+ghost use Rattle.rules.specs.declared.Command.the-variants as Do;
+ghost use Rattle.rules.specs.Answers as Answers;
+ghost use Rattle.rules.specs.Commands.{opening};
+ghost use Rattle.rules.specs.Shape as Rules;
+ghost use Rattle.rules.specs.Sheet as Sheet;
+use rules::Answer;
+use rules::Board;
+use rules::Command;
+use rules::Drained;
+use rules::Ran;
+use rules::Stepped;
+
+mod answer;
+mod commands;
+mod draining;
+mod engine;
+mod grants;
+mod guard;
+mod message;
+mod opening;
+mod packed;
+
+// Counts of nodes, processes and objects, and the homes of the processes and of the objects.
+pub fn open(
+    nodes: u8,
+    processes: u8,
+    objects: u8,
+    process_home: [u8; 16],
+    object_home: [u8; 16],
+) -> Stepped
+    ensures { λ r. ⌜ r ≡ opening nodes processes objects «process_home» «object_home» ⌝ }
+{
+    let answer = opening::opening_answer(nodes, processes, objects, process_home, object_home);
+    if answer::number(answer) != 0 {
+        return Stepped {
+            answer: answer,
+            board: opening::empty_board(0, 0, 0, [0; 16], [0; 16]),
+        };
+    }
+    let kept_processes = opening::homes_of(processes, process_home);
+    let kept_objects = opening::homes_of(objects, object_home);
+    Stepped {
+        answer: answer,
+        board: opening::empty_board(nodes, processes, objects, kept_processes, kept_objects),
+    }
+}
+
+// One command.
+pub fn step(b: Board, c: Command) -> Stepped
+    ensures { λ r. ⌜ r ≡ Rules.step b c ⌝ }
+{
+    if !guard::is_ready(b) {
+        return Stepped {
+            answer: Answer::OutOfShape,
+            board: b,
+        };
+    }
+    match c {
+        Command::Request(p, o, m) => commands::request(b, p, o, m),
+        Command::Release(p, o) => commands::release(b, p, o),
+        Command::Deliver(n) => commands::deliver(b, n),
+    }
+}
+
+// Process `p` asks for object `o`, shared with mode 0, exclusive with mode 1.
+pub fn request(b: Board, p: u8, o: u8, m: u8) -> Stepped
+    ensures { λ r. ⌜ r ≡ Rules.step b (Do.Request p o m) ⌝ }
+{
+    step(b, Command::Request(p, o, m))
+}
+
+// Process `p` gives object `o` back.
+pub fn release(b: Board, p: u8, o: u8) -> Stepped
+    ensures { λ r. ⌜ r ≡ Rules.step b (Do.Release p o) ⌝ }
+{
+    step(b, Command::Release(p, o))
+}
+
+// Message number `n` arrives.
+pub fn deliver(b: Board, n: u8) -> Stepped
+    ensures { λ r. ⌜ r ≡ Rules.step b (Do.Deliver n) ⌝ }
+{
+    step(b, Command::Deliver(n))
+}
+
+// Packed commands, two bytes each; the number of each answer goes into the room, whose bytes beyond them stay.
+pub fn run(b: Board, s: &[u8], room: &mut [u8]) -> Ran
+    ensures { λ r. ⌜ (r ≡ Sheet.run b (now (s .entry)) (now (room .entry)) .ran) × (now (room .exit) ≡ Sheet.run b (now (s .entry)) (now (room .entry)) .room) ⌝ }
+{
+    if !guard::is_ready(b) {
+        return Ran {
+            answer: Answer::OutOfShape,
+            commands: 0,
+            board: b,
+        };
+    }
+    if s.len() % 2 == 1 {
+        return Ran {
+            answer: Answer::OddByte,
+            commands: 0,
+            board: b,
+        };
+    }
+    let n = s.len() / 2;
+    if room.len() < n {
+        return Ran {
+            answer: Answer::RoomTooShort,
+            commands: 0,
+            board: b,
+        };
+    }
+    let next = engine::turns(b, s, room);
+    Ran {
+        answer: Answer::Done,
+        commands: n,
+        board: next,
+    }
+}
+
+// The lowest-numbered message arrives, again and again, until none is left or the budget is used.
+pub fn drain(b: Board, budget: usize) -> Drained
+    ensures { λ r. ⌜ r ≡ Rules.drain b budget ⌝ }
+{
+    if !guard::is_ready(b) {
+        return Drained {
+            answer: Answer::OutOfShape,
+            made: 0,
+            board: b,
+        };
+    }
+    draining::draining(b, budget)
+}
+
+// The number of an answer.
+pub fn number(a: Answer) -> u8
+    ensures { λ r. ⌜ r ≡ Answers.number a ⌝ }
+{
+    answer::number(a)
+}
