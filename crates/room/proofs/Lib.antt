@@ -1,0 +1,3 @@
+-- What the two walks share, and the theorem that both ways give one result.
+pub mod Values
+pub mod OneResult

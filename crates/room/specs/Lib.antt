@@ -1,0 +1,2 @@
+-- What "both give one result" means.
+pub mod OneResult
