@@ -1,6 +1,7 @@
 -- One object's book: what is known of it on every board reached, and that the test of a front is right.
 pub mod Settle
 pub mod Arcs
+pub mod Front
 pub mod WaitedFor
 use mathlib.Core.Path.{_≡_, refl, sym, _∙_}
 use mathlib.Core.Logic.{inl, inr, ⊎-elim, _≢_}
@@ -13,11 +14,11 @@ use native.Mathlib.Decide.{ℕ-discrete}
 use Rattle.model.specs.Lists.{isEmpty, Has}
 use Rattle.model.specs.Tables.{put}
 use Rattle.model.specs.Book.{Waiter, Line, Holders, conflict, In, onlyIf, holderAgainst, holdersAgainst, clear}
-use Rattle.model.proofs.Tables.{put-other, WherePut, where-put, some-not-none}
+use Rattle.model.proofs.Tables.{put-other, WherePut, where-put, some-not-none, true-not-false}
 use Rattle.model.proofs.Lists.{any-left, any-right, any-cases, any-end}
 
 -- ---- the holders in conflict with a mode
-abbrev HoldsAgainst : Holders → ℕ → ℕ → Bool → Type 0
+abbrev pub HoldsAgainst : Holders → ℕ → ℕ → Bool → Type 0
 HoldsAgainst h p q m = (n : Bool) × (q ≢ p) × (h q ≡ some n) × (conflict m n ≡ true)
 
 holderAgainst-sound : (h : Holders) (p q : ℕ) (m : Bool) (k : ℕ) (d : Dec (k ≡ p)) (x : Option Bool) → h k ≡ x → Has q (holderAgainst d x m k) → HoldsAgainst h p q m
@@ -80,6 +81,15 @@ clear-sound h p q m n b f ne e = go (conflict m n) refl (holdersAgainst 16 h p m
     go false e l z k = e
     go true e [] z k = absurd (k e)
     go true e (x ∷ l) z k = cc
+
+-- and who is not conflicts with one
+pub not-clear : (h : Holders) (p : ℕ) (m : Bool) → clear h p m ≡ false → (q : ℕ) × HoldsAgainst h p q m
+unfolding clear
+not-clear h p m f = go (holdersAgainst 16 h p m) f (λ q. holdersAgainst-sound 16 h p q m)
+  where
+    go : (l : List ℕ) → isEmpty l ≡ false → ((q : ℕ) → Has q l → HoldsAgainst h p q m) → (q : ℕ) × HoldsAgainst h p q m
+    go [] z k = true-not-false true refl z
+    go (q ∷ l) z k = (q, k q (inl refl))
 
 conflict-symmetric : (m n : Bool) → conflict m n ≡ conflict n m
 conflict-symmetric true true = refl

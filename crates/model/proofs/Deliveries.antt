@@ -78,7 +78,7 @@ module _ (b : Board) (k : Agreement b) (search : Search b) (i : ℕ) (lt : i < 6
       less = omega (arith, startList-less p (fresh (p ∷ []) (waitedFor (b .holder o) (b .line o ++ standing p m ∷ []) p)) (room-left b k i (request p o m) lt here), take-weigh (b .messages) i (request p o m) lt here measureOf, Request.lines-after b k i p o m lt here (λ _. 1))
 
   requestArrives-progress : (p o : ℕ) (m : Bool) → b .messages i ≡ some (request p o m) → Progress b (requestArrives b f p o m)
-  requestArrives-progress p o m here = requestArrives-either (Progress b) b f p o m (granted-progress p o m here) (joined-progress p o m here)
+  requestArrives-progress p o m here = requestArrives-either (Progress b) b f p o m (granted-progress p o m here) (λ _. joined-progress p o m here)
 
   -- ---- a list: it goes on by one place, to a home or to an object, or ends
   module _ (es : List Entry) (n : ℕ) (t : Option ℕ) (here : b .messages i ≡ some (list es n t)) where

@@ -8,6 +8,7 @@ pub mod Book
 pub mod Rings
 pub mod Arrivals
 pub mod Places
+pub mod Fronts
 pub mod Agreement
 pub mod Search
 pub mod Measure

@@ -45,7 +45,7 @@ entryDone-keeps b f es n = λ s h. refl
 
 act-keeps : (b : Board) (f : Numbered Message) (m : Message) → PlacesKept b (act b f m)
 unfolding act grantArrives releaseArrives granted joined
-act-keeps b f (request p o m) = requestArrives-either (PlacesKept b) b f p o m (λ _ _ s h. refl) (λ s h. refl)
+act-keeps b f (request p o m) = requestArrives-either (PlacesKept b) b f p o m (λ _ _ s h. refl) (λ _ s h. refl)
 act-keeps b f (grant p o m) = λ s h. refl
 act-keeps b f (release p o) = λ s h. refl
 act-keeps b f (list es n none) = atHome-either (PlacesKept b) b f es n (entryDone-keeps b f es n) (λ a s h. refl)

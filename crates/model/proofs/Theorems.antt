@@ -17,7 +17,9 @@ use Rattle.model.proofs.Sums.{one}
 use Rattle.model.proofs.Lines.{sumLines-stands}
 use Rattle.model.proofs.Flight.{nothing-in-flight, nothing-weighs}
 use Rattle.model.proofs.Book.{Compatible}
+use Rattle.model.proofs.Book.Front.{line-blocked}
 use Rattle.model.proofs.Places.{later-keeps}
+use Rattle.model.proofs.Fronts.{reached-fronts}
 use Rattle.model.proofs.Agreement.{wantedObject, wantedMode, tokenOf, keepsHold, Agreement}
 use Rattle.model.proofs.Agreement.Commands.{spare, requestMade-agrees, releaseMade-agrees}
 use Rattle.model.proofs.Search.{Search}
@@ -58,10 +60,18 @@ module _ (b : Board) (r : Reach b) where
   pub recorded-later : (c : Board) → Later b c → (s : ℕ) → Filled (b .place s) → (c .place s ≡ b .place s) × IsRing (Waits c) (b .place s)
   recorded-later c l s h = let e = later-keeps l s h in (e, rw e at (later-invariant (reached-invariant r) l .1 .recorded s (rw e h)))
 
-  -- "At no time do the homes' books show two processes in conflicting holds."
-  pub no-conflict : (p q o : ℕ) (m n : Bool) → p ≢ q → b .hold p o ≡ some m → b .hold q o ≡ some n → conflict m n ≡ false
+  -- "At no time do the homes' books show two processes in conflicting holds." Nor do the objects' books.
+  pub no-conflict-objects : (p q o : ℕ) (m n : Bool) → p ≢ q → b .holder o p ≡ some m → b .holder o q ≡ some n → conflict m n ≡ false
   unfolding Compatible
-  no-conflict p q o m n ne x y = agreement .compatible o p q m n ne (agreement .modes p o m x) (agreement .modes q o n y)
+  no-conflict-objects p q o m n = agreement .compatible o p q m n
+
+  pub no-conflict : (p q o : ℕ) (m n : Bool) → p ≢ q → b .hold p o ≡ some m → b .hold q o ≡ some n → conflict m n ≡ false
+  no-conflict p q o m n ne x y = no-conflict-objects p q o m n ne (agreement .modes p o m x) (agreement .modes q o n y)
+
+  -- a list is started by everyone that joins: "none if it waits for nobody, which happens only on boards no commands reach"
+  pub blocked : (o p : ℕ) (m : Bool) → In p m (b .line o) → (q : ℕ) × Waits b p q
+  unfolding Waits
+  blocked o p m i = let w = line-blocked (b .holder o) (b .line o) (agreement .fit o) (reached-fronts r o) p m i in (w .0, (o, w .1))
 
   -- ---- when no message is left
   module _ (quiet : NoMessages b) where

@@ -1,4 +1,4 @@
--- Every board that commands reach is as promised: demand 3.
+-- Every board that commands reach is as promised: demand 3, and document 01.
 use mathlib.Core.Path.{_≡_, refl, ap, ap₂, sym, _∙_}
 use mathlib.Core.Logic.{_≢_}
 use mathlib.Core.Option.{Option, none, some}
@@ -17,21 +17,22 @@ use Rattle.rules.specs.Book.{isExclusive}
 use Rattle.rules.specs.Board.{processAt, kindAt, listAt, ringAt}
 use Rattle.rules.specs.Commands.{turn}
 use Rattle.rules.specs.Shape.{drain}
-use Rattle.rules.specs.Waits.{IsRing, Filled, Quiet, Later, Deliveries, recorded}
+use Rattle.rules.specs.Waits.{Stands, Waits, IsRing, Filled, Quiet, Reached, Later, now, Deliveries, recorded}
 use Rattle.model.specs.Board.{wants, Message as MessageM, Filled as FilledM}
 use Rattle.model.specs.Reach.{NoMessages}
 use Rattle.model.proofs.Tables.{some-not-none}
 use Rattle.model.proofs.Agreement.{wantedObject, wantedMode}
-use Rattle.model.proofs.Theorems.{recorded-true, recorded-own, recorded-later, all-found, agree-holds, agree-waits, no-conflict}
-use Rattle.promises.specs.Demand.{RingsTrue, Ends, AtRest, NoConflict, Fits, Demand, DemandHolds}
+use Rattle.model.proofs.Theorems.{recorded-true, recorded-own, recorded-later, all-found, agree-holds, agree-waits, no-conflict, no-conflict-objects, blocked}
+use Rattle.promises.specs.Demand.{RingsTrue, Ends, AtRest, NoConflict, Demand3, Fits, Drains, Paper, DemandHolds, SheetsReach}
 use Rattle.promises.proofs.Seen.Tables.{has-from, filled-to, filled-from}
 use Rattle.promises.proofs.Seen.{holdSeen, waitSeen, seen}
 use Rattle.promises.proofs.Sends.{isThere, there-kind}
 use Rattle.promises.proofs.Commands.{Answered, refused, accepted, turn-view}
 use Rattle.promises.proofs.Seen.Objects.{conflict-view}
-use Rattle.promises.proofs.Seen.Waits.{same-mode, hold-back, stands-in, in-stands, ring-to, ring-from}
-use Rattle.promises.proofs.Reached.{Sound, sound, sound-shape, step-turn, step-present, later-seen, delivered-sound, at-most, one-more}
-use Rattle.promises.proofs.Drain.{drain-view, drain-enough}
+use Rattle.promises.proofs.Seen.Waits.{same-mode, hold-back, stands-in, in-stands, waits-from, ring-to, ring-from}
+use Rattle.promises.proofs.Reached.{Sound, sound, sound-shape, step-turn, step-present, later-seen, later-reached, deliveries-later, delivered-sound, any-order, at-most, one-more}
+use Rattle.promises.proofs.Drain.{drain-view, drain-enough, lowest-only}
+use Rattle.promises.proofs.Sheet.{run-later, sheet-reached}
 
 module _ (b : Board) (s : Sound b) where
   fill : (q : ℕ) → Filled b q → FilledM (seen b .place q)
@@ -40,8 +41,8 @@ module _ (b : Board) (s : Sound b) where
   rings-true : RingsTrue b
   rings-true = record {
     ring = λ q h. ring-from b (recorded b q) (recorded-true (seen b) (s .reach) q (fill q h));
-    own = λ q h. recorded-own (seen b) (s .reach) q (fill q h);
     later = later;
+    own = λ q h. recorded-own (seen b) (s .reach) q (fill q h);
   }
     where
       later : (c : Board) → Later b c → (q : ℕ) → Filled b q → (recorded c q ≡ recorded b q) × IsRing c (recorded b q)
@@ -55,11 +56,11 @@ module _ (b : Board) (s : Sound b) where
   ends =
       let d = drain-view b s 1920 in
       record {
-        deliverable = step-present b s;
+        deliverable = λ n c r. step-present c (delivered-sound s r);
         atMost = λ n c r. at-most s r;
         stuck = λ n c r f i p. f i (step-present c (delivered-sound s r) i p);
         after = spent;
-        way = (drain b 1920 .made, drain b 1920 .board, at-most s (d .made), d .made, drain-enough b s 1920 (omega arith));
+        way = (drain b 1920 .made, drain b 1920 .board, at-most s (d .made), any-order (d .made), drain-enough b s 1920 (omega arith));
       }
 
   at-rest : Quiet b → AtRest b
@@ -67,10 +68,10 @@ module _ (b : Board) (s : Sound b) where
     found = λ l h.
         let k = all-found (seen b) (s .reach) still l (ring-to b l h) in
         (k .0, has-from (k .0) l (k .1), filled-from (ringAt b (k .0) .count) _ (k .2));
-    holds = λ p o m.
+    agreeHolds = λ p o m.
         let k = agree-holds (seen b) (s .reach) still p o (isExclusive m) in
         ((λ e. hold-back _ m (k .0 (ap holdSeen e))), λ e. hold-back _ m (k .1 (ap holdSeen e)));
-    waits = λ p o m.
+    agreeWaits = λ p o m.
         let k = agree-waits (seen b) (s .reach) still p o (isExclusive m) in
         ((λ e. in-stands b o p m (k .0 (ap waitSeen e))), λ z. wait-back (processAt b p .wait) o m (k .1 (stands-in b o (z .0) p m (z .1))));
   }
@@ -87,7 +88,10 @@ module _ (b : Board) (s : Sound b) where
       wait-back (Waiting u n) o m e = ap₂ Waiting (ap wantedObject e) (same-mode n m (ap wantedMode e))
 
   apart : NoConflict b
-  apart p q o m n ne x y = conflict-view m n ∙ no-conflict (seen b) (s .reach) p q o (isExclusive m) (isExclusive n) ne (ap holdSeen x) (ap holdSeen y)
+  apart = record {
+    homes = λ p q o m n ne x y. conflict-view m n ∙ no-conflict (seen b) (s .reach) p q o (isExclusive m) (isExclusive n) ne (ap holdSeen x) (ap holdSeen y);
+    objects = λ p q o m n ne x y. conflict-view m n ∙ no-conflict-objects (seen b) (s .reach) p q o (isExclusive m) (isExclusive n) ne (ap holdSeen x) (ap holdSeen y);
+  }
 
   -- no test of a command has 17 for its answer
   no-17 : (c : Command) → Answered b c → turn b c .answer ≢ OutOfShape
@@ -95,18 +99,36 @@ module _ (b : Board) (s : Sound b) where
   no-17 c (accepted _ d) e = omega (arith, ap number e, ap number d)
 
   fits : Fits b
-  fits = record { shape = sound-shape b s; steps = λ c e. no-17 c (turn-view b c) (ap (λ (x : Stepped). x .answer) (sym (step-turn b s c)) ∙ e); drains = λ n. drain-view b s n .answer }
+  fits = record { shape = sound-shape b s; steps = λ c e. no-17 c (turn-view b c) (ap (λ (x : Stepped). x .answer) (sym (step-turn b s c)) ∙ e); drainDone = λ n. drain-view b s n .answer }
 
-  all-of-it : Demand b
-  all-of-it = record {
-    rings = rings-true;
-    ends = ends;
-    atRest = at-rest;
-    noConflict = apart;
-    loadAtMost = s .good .shaped .load;
-    fits = fits;
-    drains = λ n. let d = drain-view b s n in record { made = d .made; within = d .within; end = d .end; enough = drain-enough b s n };
-  }
+-- ---- both parts
+module _ (b : Board) (r : Reached b) where
+  abbrev s : Sound b
+  s = sound r
+
+  demand-3 : Demand3 b
+  demand-3 = record { rings = rings-true b s; ends = ends b s; atRest = λ n c d. at-rest c (delivered-sound s d); noConflict = apart b s }
+
+  drains : (n : ℕ) → Drains b n
+  drains n =
+      let d = drain-view b s n in
+      record {
+        made = d .made;
+        within = d .within;
+        end = d .end;
+        only = λ k c x h e. lowest-only n x h e (d .made) (d .within) (d .end);
+        enough = drain-enough b s n;
+        reached = later-reached r (deliveries-later now (d .made));
+      }
+
+  waits : (o k p : ℕ) (m : Mode) → Stands b o k p m → (q : ℕ) × Waits b p q
+  waits o k p m h = let w = blocked (seen b) (s .reach) o p (isExclusive m) (stands-in b o k p m h) in (w .0, waits-from b p (w .0) (w .1))
+
+  paper : Paper b
+  paper = record { loadAtMost = s .good .shaped .load; fits = fits b s; drains = drains; blocked = waits; runs = run-later b s }
 
 pub demand-holds : DemandHolds
-demand-holds b r = all-of-it b (sound r)
+demand-holds b r = record { demand3 = demand-3 b r; paper = paper b r }
+
+pub sheets-reach : SheetsReach
+sheets-reach = sheet-reached

@@ -8,4 +8,5 @@ pub mod Commands
 pub mod Standing
 pub mod Reached
 pub mod Drain
+pub mod Sheet
 pub mod Demand

@@ -11,7 +11,7 @@ use Rattle.rules.specs.declared.Stepped.{Stepped}
 use Rattle.rules.specs.Board.{processAt}
 use Rattle.rules.specs.Commands.{delivered, effect, turn}
 use Rattle.rules.specs.Shape.{inShape, step}
-use Rattle.rules.specs.Waits.{Present, Reached, opens, does, Later, now, Deliveries, more}
+use Rattle.rules.specs.Waits.{Present, Reached, opens, does, Later, now, DeliveriesBy, Deliveries, stay, more}
 use Rattle.laws.proofs.Shape.{tested}
 use Rattle.laws.proofs.Opening.{opening-sized, opening-shaped}
 use Rattle.laws.proofs.Kept.{Good, good, sound as records-of, turn-sound, deliver-good, release-good, turn-done, request-kept}
@@ -67,22 +67,34 @@ pub later-seen : {b c : Board} → Sound b → Later b c → Sound c × LaterM (
 later-seen s now = (s, nowM)
 later-seen s (does {c = c} l x) = let r = later-seen s l in (step-sound c (r .0) x, moves-later (r .1) (step-moves c (r .0) x))
 
--- ---- deliveries
-pub delivered-sound : {n : ℕ} {b c : Board} → Sound b → Deliveries n b c → Sound c
-delivered-sound s Deliveries.none = s
-delivered-sound s (more {b = b} i e r) = delivered-sound (step-sound b s (Do.Deliver i)) r
+pub later-reached : {b c : Board} → Reached b → Later b c → Reached c
+later-reached r now = r
+later-reached r (does l x) = does (later-reached r l) x
 
-run-seen : {n : ℕ} {b c : Board} → Sound b → Deliveries n b c → Run n (seen b) (seen c)
-run-seen s Deliveries.none = stop
-run-seen s (more {b = b} i e r) =
-    let x = turn-delivers b (s .good) i (ap (λ (y : Stepped). y .answer) (sym (step-turn b s (Do.Deliver i))) ∙ e) in
-    let v : seen (step b (Do.Deliver i) .board) ≡ _ = ap (λ (y : Stepped). seen (y .board)) (step-turn b s (Do.Deliver i)) ∙ x .3 in
-    then i (x .0) (x .1) (x .2) (rw v at (run-seen (step-sound b s (Do.Deliver i)) r))
+-- ---- deliveries, by any rule of choice
+module _ {rule : Board → ℕ → Type 0} where
+  pub deliveries-later : {n : ℕ} {a b c : Board} → Later a b → DeliveriesBy rule n b c → Later a c
+  deliveries-later l stay = l
+  deliveries-later l (more i h e r) = deliveries-later (does l (Do.Deliver i)) r
 
-pub at-most : {n : ℕ} {b c : Board} → Sound b → Deliveries n b c → n ≤ 1920
-at-most s r = deliveries-at-most (s .reach) (run-seen s r)
+  pub delivered-sound : {n : ℕ} {b c : Board} → Sound b → DeliveriesBy rule n b c → Sound c
+  delivered-sound s r = later-seen s (deliveries-later now r) .0
+
+  run-seen : {n : ℕ} {b c : Board} → Sound b → DeliveriesBy rule n b c → Run n (seen b) (seen c)
+  run-seen s stay = stop
+  run-seen s (more {b = b} i h e r) =
+      let x = turn-delivers b (s .good) i (ap (λ (y : Stepped). y .answer) (sym (step-turn b s (Do.Deliver i))) ∙ e) in
+      let v : seen (step b (Do.Deliver i) .board) ≡ _ = ap (λ (y : Stepped). seen (y .board)) (step-turn b s (Do.Deliver i)) ∙ x .3 in
+      then i (x .0) (x .1) (x .2) (rw v at (run-seen (step-sound b s (Do.Deliver i)) r))
+
+  pub at-most : {n : ℕ} {b c : Board} → Sound b → DeliveriesBy rule n b c → n ≤ 1920
+  at-most s r = deliveries-at-most (s .reach) (run-seen s r)
+
+  pub any-order : {n : ℕ} {b c : Board} → DeliveriesBy rule n b c → Deliveries n b c
+  any-order stay = stay
+  any-order (more i h e r) = more i tt e (any-order r)
 
 -- one more delivery, at the end
 pub one-more : {n : ℕ} {b c : Board} → Deliveries n b c → (i : ℕ) → step c (Do.Deliver i) .answer ≡ Done → Deliveries (suc n) b (step c (Do.Deliver i) .board)
-one-more Deliveries.none i e = more i e Deliveries.none
-one-more (more j z r) i e = more j z (one-more r i e)
+one-more stay i e = more i tt e stay
+one-more (more j h z r) i e = more j h z (one-more r i e)

@@ -4,7 +4,7 @@ use mathlib.Core.Logic.{_⊎_, _≢_}
 use mathlib.Core.Bool.{true}
 use mathlib.Core.Option.{some}
 use mathlib.Core.List.{List, [], _∷_}
-use Prim.Native.Nat.{ℕ, suc, _<_}
+use Prim.Native.Nat.{ℕ, suc, _≤_, _<_}
 use lib.ListN.{getD}
 use Rattle.rules.specs.declared.Mode.{Mode}
 use Rattle.rules.specs.declared.Board.{Board}
@@ -85,7 +85,19 @@ pub data Later (b : Board) : Board → Type 0 where
   now : Later b b
   does : {c : Board} → Later b c → (x : Command) → Later b (step c x .board)
 
--- n deliveries, none refused, lead from b to c
-pub data Deliveries : ℕ → Board → Board → Type 0 where
-  none : {b : Board} → Deliveries 0 b b
-  more : {n : ℕ} {b c : Board} → (i : ℕ) → step b (Do.Deliver i) .answer ≡ Done → Deliveries n (step b (Do.Deliver i) .board) c → Deliveries (suc n) b c
+-- message number n is the lowest in flight
+abbrev pub Lowest : Board → ℕ → Type 0
+Lowest b n = Present b n × ((i : ℕ) → Present b i → n ≤ i)
+
+-- n deliveries, none refused, each of a number that the rule of choice allows, lead from b to c
+pub data DeliveriesBy (rule : Board → ℕ → Type 0) : ℕ → Board → Board → Type 0 where
+  stay : {b : Board} → DeliveriesBy rule 0 b b
+  more : {n : ℕ} {b c : Board} → (i : ℕ) → rule b i → step b (Do.Deliver i) .answer ≡ Done → DeliveriesBy rule n (step b (Do.Deliver i) .board) c → DeliveriesBy rule (suc n) b c
+
+-- "Any order of delivery is allowed."
+abbrev pub Deliveries : ℕ → Board → Board → Type 0
+Deliveries n b c = DeliveriesBy (λ _ _. Unit {0}) n b c
+
+-- "deliver the lowest-numbered message again and again"
+abbrev pub LowestFirst : ℕ → Board → Board → Type 0
+LowestFirst n b c = DeliveriesBy Lowest n b c

@@ -85,7 +85,7 @@ module _ (b : Board) where
   pub in-stands : (o p : ℕ) (m : Mode) → In p (isExclusive m) (lineSeen (objectAt b o)) → (k : ℕ) × Stands b o k p m
   in-stands o p m i = let s = in-mode o p (isExclusive m) i in (s .0, subst (λ (n : Mode). Stands b o (s .0) p n) (same-mode (s .1) m (s .2)) (s .3))
 
-  waits-from : (p q : ℕ) → WaitsM (seen b) p q → Waits b p q
+  pub waits-from : (p q : ℕ) → WaitsM (seen b) p q → Waits b p q
   unfolding WaitsM
   waits-from p q (o, heldM m n ne c i h) =
       let s = in-mode o p m i in
