@@ -3,3 +3,5 @@ pub mod Tests
 pub mod Spare
 pub mod Order
 pub mod Parts
+pub mod Runs
+pub mod Longer

@@ -1,20 +1,19 @@
 -- The reader's tests in order: the answer at the first test that holds, once those before it fail. Each section adds one test that failed.
 -- Assumes nothing.
-use mathlib.Core.Path.{_≡_, refl, sym, ap, _∙_}
+use mathlib.Core.Path.{_≡_, sym, _∙_}
 use mathlib.Core.Bool.{Bool, true, false, not}
-use mathlib.Core.List.{List, _∷_}
-use Prim.Native.Nat.{ℕ, _+_, _-_, _*_, _/_, _%_, _≤_, _<_}
+use mathlib.Core.List.{List}
+use Prim.Native.Nat.{ℕ, _-_, _/_, _%_, _≤_, _<_}
 use lib.Dec.{eqb}
 use lib.ListN.{length, drop}
 use native.Mathlib.Omega.{arith}
-use borrow.Author.Tests.{ltb-false, lt-ltb, le-ltb, eq-eqb, ne-eqb}
+use borrow.Author.Tests.{lt-ltb, le-ltb, eq-eqb, ne-eqb}
 use Rattle.rules.specs.declared.Answer.{Answer}
 use Rattle.rules.specs.declared.Answer.the-variants.{Done, HomeOutside, SheetCut, WrongForm, SpareBit, OddByte, TooManyCommands}
 use Rattle.rules.specs.Tables.{all}
-use Rattle.rules.specs.Answers.{done, firstOf}
+use Rattle.rules.specs.Answers.{firstOf}
 use Rattle.rules.specs.Commands.{homeOutside}
 use Rattle.rules.specs.Sheet.{commandCount, commandSpare, readerAnswer}
-use Rattle.rules.proofs.Tables.{true-not-false}
 use Rattle.rules.proofs.Sheet.{field-below}
 use Rattle.reader.specs.declared.Head.{Head}
 use Rattle.reader.specs.Head.{headOf}
@@ -95,6 +94,9 @@ module _ (s : List ℕ) (h : Head) where
 pub few-homes : (s : List ℕ) {h : Head} → h ≡ headOf s → (h .processes ≤ 16) × (h .objects ≤ 16)
 few-homes s e = rw e (omega (arith, field-below s 7 4), omega (arith, field-below s 11 4))
 
+pub few-nodes : (s : List ℕ) {h : Head} → h ≡ headOf s → h .nodes ≤ 8
+few-nodes s e = rw e (omega (arith, field-below s 4 3))
+
 -- it ends early
 pub early-start : (s : List ℕ) {h : Head} → h ≡ headOf s → h .start ≤ 14
 early-start s e = rw e (omega (arith, field-below s 7 4, field-below s 11 4))
@@ -103,17 +105,3 @@ early-start s e = rw e (omega (arith, field-below s 7 4, field-below s 11 4))
 pub from-start : (s : List ℕ) {h : Head} → h ≡ headOf s → firstOf (headTests s h) ≡ readerAnswer s
 unfolding readerAnswer
 from-start s e = rw e
-
--- ---- a sheet that is not refused
--- no test that refuses holds, so the rest decides
-passed : (t : Bool) (a : Answer) (ts : List (Bool × Answer)) → done a ≡ false → done (firstOf ((t, a) ∷ ts)) ≡ true → (t ≡ false) × (done (firstOf ts) ≡ true)
-unfolding firstOf
-passed true a ts f e = absurd (true-not-false (sym e ∙ f))
-passed false a ts f e = (refl, e)
-
-pub whole-head : (s : List ℕ) (h : Head) → done (firstOf (headTests s h)) ≡ true → h .start ≤ length s
-whole-head s h e =
-    let a = passed _ SheetCut _ refl e in
-    let b = passed _ WrongForm _ refl (a .1) in
-    let c = passed _ SpareBit _ refl (b .1) in
-    ltb-false (length s) (h .start) (passed _ SheetCut _ refl (c .1) .0)

@@ -1,9 +1,9 @@
 -- The part of a sheet that holds the commands: from the head's end on where the sheet is good, and empty where it is refused.
 -- Assumes nothing.
-use mathlib.Core.Path.{_≡_, refl, sym, ap, _∙_}
+use mathlib.Core.Path.{_≡_, sym, ap, _∙_}
 use mathlib.Core.Bool.{Bool, true, false}
 use mathlib.Core.List.{List, []}
-use Prim.Native.Nat.{ℕ, _-_, _*_, _≤_}
+use Prim.Native.Nat.{ℕ, _-_, _*_}
 use native.Mathlib.Omega.{arith}
 use lib.ListN.{length, take, drop, length-drop}
 use lib.Seq.{take-all, drop-length}
@@ -16,7 +16,7 @@ use Rattle.reader.specs.declared.Head.{Head}
 use Rattle.reader.specs.Head.{headOf}
 use Rattle.reader.specs.Place.{byteUp}
 use Rattle.sheet.specs.Head.{headTests}
-use Rattle.sheet.proofs.Order.{from-start, whole-head}
+use Rattle.sheet.proofs.Order.{from-start}
 
 -- ---- a slice from a byte on, and from its end on
 pub rest-of : (s : List ℕ) (a : ℕ) → take (length s - a) (drop a s) ≡ drop a s
@@ -31,24 +31,18 @@ whole-byte a = omega arith
 
 -- ---- the head was read, its tests gave the answer, and the answer's number is n
 module _ (s : List ℕ) {h : Head} {a : Answer} {n : ℕ} (read : h ≡ headOf s) (tests : a ≡ firstOf (headTests s h)) (is : n ≡ number a) where
-  answer-is : done (readerAnswer s) ≡ done a
+  pub answer-is : done (readerAnswer s) ≡ done a
   answer-is = ap done (sym (from-start s read)) ∙ ap done (sym tests)
 
   pub good : n ≡ 0 → done a ≡ true
   good e = eq-eqb (number a) 0 (sym is ∙ e)
 
-  refused : (n ≡ 0 → ⊥) → done a ≡ false
+  pub refused : (n ≡ 0 → ⊥) → done a ≡ false
   refused f = ne-eqb (number a) 0 (λ z. f (is ∙ z))
-
-  pub part-starts : n ≡ 0 → h .start ≤ length s
-  part-starts e = whole-head s h (ap done (sym tests) ∙ good e)
 
   after-head : n ≡ 0 → drop (h .start) s ≡ commandsPart s
   unfolding commandsPart
   after-head e = ap (λ (x : Head). drop (x .start) s) read ∙ sym (ap (λ (t : Bool). pick t (afterHomes s) []) (answer-is ∙ good e))
-
-  pub part-of-good : n ≡ 0 → take (length s - h .start) (drop (h .start) s) ≡ commandsPart s
-  part-of-good e = rest-of s (h .start) ∙ after-head e
 
   pub rest-of-good : n ≡ 0 → {l : List ℕ} → l ≡ drop (byteUp (8 * h .start)) s → l ≡ commandsPart s
   rest-of-good e f = f ∙ ap (λ (a : ℕ). drop a s) (whole-byte (h .start)) ∙ after-head e

@@ -1,8 +1,12 @@
-// Reads a packed sheet: its answer, which is the first refusal in the paper's order, and the part of it that holds the commands.
+// Reads a packed sheet and runs it: its answer, which is the first refusal in the paper's order, the part of it that holds the commands,
+// and what all of its commands do to its opening.
 ghost use mathlib.Core.Path.{_≡_};
-ghost use Rattle.rules.specs.Answers as Rules;
-ghost use Rattle.rules.specs.Sheet.{readerAnswer, commandsPart};
+ghost use mathlib.Core.List.{[]};
+ghost use Rattle.rules.specs.Commands.{zeroBoard};
+ghost use Rattle.rules.specs.Sheet.{readerAnswer, commandsPart, refusedRun, runSheet};
+ghost use Rattle.sheet.specs.Kept.{keptOf};
 use rules::Answer;
+use rules::Ran;
 
 mod head;
 mod homes;
@@ -23,7 +27,7 @@ pub fn commands(s: &[u8]) -> &[u8]
     let h = reader::read_head(s);
     let start = h.start;
     let a = head::tested(s, h);
-    if number(a) == 0 {
+    if bench::number(a) == 0 {
         reader::rest_from(s, 8 * start)
     } else {
         let end = s.len();
@@ -31,29 +35,53 @@ pub fn commands(s: &[u8]) -> &[u8]
     }
 }
 
-// The number of an answer, from the table of answer numbers.
-pub fn number(a: Answer) -> u8
-    ensures { λ r. ⌜ r ≡ Rules.number a ⌝ }
+// A refused sheet runs nothing: the board of zeros, and no command.
+fn refused(a: Answer) -> Ran
+    ensures { λ r. ⌜ r ≡ refusedRun a zeroBoard [] .ran ⌝ }
 {
-    match a {
-        Answer::Done => 0,
-        Answer::CountOutside => 1,
-        Answer::HomeOutside => 2,
-        Answer::NoProcess => 3,
-        Answer::NoObject => 4,
-        Answer::NoMode => 5,
-        Answer::ProcessWaits => 6,
-        Answer::HasReleased => 7,
-        Answer::HoldsAlready => 8,
-        Answer::HoldsNot => 9,
-        Answer::LoadTooHigh => 10,
-        Answer::NoMessage => 11,
-        Answer::SheetCut => 12,
-        Answer::WrongForm => 13,
-        Answer::SpareBit => 14,
-        Answer::OddByte => 15,
-        Answer::TooManyCommands => 16,
-        Answer::OutOfShape => 17,
-        Answer::RoomTooShort => 18,
+    let row = [0u8; 16];
+    let nothing = bench::open(0, 0, 0, row, row);
+    let board = nothing.board;
+    Ran {
+        answer: a,
+        commands: 0,
+        board: board,
     }
+}
+
+// Runs the whole sheet on an opening, and writes each command's answer as one byte into the room.
+pub fn run(s: &[u8], room: &mut [u8]) -> Ran
+    ensures { λ r. ⌜ (r ≡ runSheet (now (s .entry)) (now (room .entry)) .ran) × (now (room .exit) ≡ runSheet (now (s .entry)) (now (room .entry)) .room) ⌝ }
+{
+    let h = reader::read_head(s);
+    let a = head::tested(s, h);
+    if bench::number(a) != 0 {
+        return refused(a);
+    }
+    let start = h.start;
+    let part = reader::rest_from(s, 8 * start);
+    if room.len() < part.len() / 2 {
+        return refused(Answer::RoomTooShort);
+    }
+    let process_home = h.process_home;
+    let object_home = h.object_home;
+    let opened = bench::open(
+        h.nodes as u8,
+        h.processes as u8,
+        h.objects as u8,
+        process_home,
+        object_home,
+    );
+    let board = opened.board;
+    bench::run(board, part, room)
+}
+
+// How many bytes of an input of this length to keep: what is kept runs as the whole input does, however long that is.
+pub fn kept(total: usize) -> usize
+    ensures { λ r. ⌜ r ≡ keptOf total ⌝ }
+{
+    if total < 8207 {
+        return total;
+    }
+    8208 - total % 2
 }

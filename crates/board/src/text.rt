@@ -1,0 +1,55 @@
+// The printed text, collected in one buffer: each function puts something at a place and hands back the place after it.
+ghost use mathlib.Core.Path.{_≡_};
+ghost use Prim.Native.Nat.{_+_, _<_, _≤_};
+ghost use lib.ListN.{length};
+
+pub fn put(out: &mut [u8; 65536], at: usize, x: u8) -> usize
+    requires { ⌜ at < 65536 ⌝ }
+    ensures { λ r. ⌜ r ≡ at + 1 ⌝ }
+{
+    out[at] = x;
+    at + 1
+}
+
+pub fn word(out: &mut [u8; 65536], at: usize, letters: &[u8]) -> usize
+    requires { ⌜ at + length (now letters) ≤ 65536 ⌝ }
+    ensures { λ r. ⌜ r ≡ at + length (now (letters .entry)) ⌝ }
+{
+    let mut i: usize = 0;
+    while i < letters.len() {
+        out[at + i] = letters[i];
+        i += 1;
+    }
+    at + i
+}
+
+fn digit(out: &mut [u8; 65536], at: usize, d: usize) -> usize
+    requires { ⌜ (at < 65536) × (d < 10) ⌝ }
+    ensures { λ r. ⌜ r ≡ at + 1 ⌝ }
+{
+    put(out, at, 48 + d as u8)
+}
+
+fn below_hundred(out: &mut [u8; 65536], at: usize, n: usize) -> usize
+    requires { ⌜ (at + 2 ≤ 65536) × (n < 100) ⌝ }
+    ensures { λ r. ⌜ r ≤ at + 2 ⌝ }
+{
+    if n < 10 {
+        return digit(out, at, n);
+    }
+    let tens = digit(out, at, n / 10);
+    digit(out, tens, n % 10)
+}
+
+// The number of a command, a process, an object or an answer, in decimal.
+pub fn number(out: &mut [u8; 65536], at: usize, n: usize) -> usize
+    requires { ⌜ (at + 4 ≤ 65536) × (n < 10000) ⌝ }
+    ensures { λ r. ⌜ r ≤ at + 4 ⌝ }
+{
+    if n < 100 {
+        return below_hundred(out, at, n);
+    }
+    let hundreds = below_hundred(out, at, n / 100);
+    let tens = digit(out, hundreds, n / 10 % 10);
+    digit(out, tens, n % 10)
+}

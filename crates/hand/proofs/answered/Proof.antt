@@ -1,0 +1,43 @@
+-- `hand::answered` is safe and ends. The part of the room that is read is as long as the line. Assumes nothing.
+use mathlib.Core.Path.{sym}
+use lib.Seq.{length-take-le}
+use borrow.Author.Needs.{needs}
+use Rattle.hand.proofs.answered.Statement.{statement}
+use Rattle.hand.proofs.answered.Tie as tie
+
+slice-aggregate-read : tie.Need-slice-aggregate-read
+slice-aggregate-read c = sym (length-take-le _ _ (c .before .if1 .taken))
+
+read-requires : tie.Need-read-requires
+read-requires c κs = search needs
+
+of-requires : tie.Need-of-requires
+of-requires c κs = search needs
+
+act-requires : tie.Need-act-requires
+act-requires c κs = search needs
+
+returns : tie.Need-returns
+returns c = search needs
+
+slice-aggregate-expected : tie.Need-slice-aggregate-expected
+slice-aggregate-expected c = search needs
+
+expected-requires : tie.Need-expected-requires
+expected-requires c κs = search needs
+
+returns-2 : tie.Need-returns-2
+returns-2 c = search needs
+
+pub answered-spec : {M : Type 1} → statement M
+answered-spec =
+    tie.close
+    (tie.spec
+    slice-aggregate-read
+    read-requires
+    of-requires
+    act-requires
+    returns
+    slice-aggregate-expected
+    expected-requires
+    returns-2)

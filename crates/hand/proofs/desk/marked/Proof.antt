@@ -1,0 +1,46 @@
+-- `hand::desk::marked` is safe and ends. The loop counts the 64 message numbers. Assumes nothing.
+use Prim.Native.Nat.{_≤_, _-_}
+use borrow.Author.Needs.{needs}
+use Rattle.hand.proofs.desk.marked.Statement.{statement}
+use Rattle.hand.proofs.desk.marked.Tie as tie
+
+abbrev Inv-loop : tie.InvT-loop
+Inv-loop before after s freed r₀ i₀ r i = i ≤ 64
+
+abbrev μ-loop : tie.MeasureT-loop
+μ-loop before after s freed r₀ i₀ r i = 64 - i
+
+loop-holds : tie.Need-loop-holds Inv-loop μ-loop
+loop-holds c = search needs
+
+is-new-requires : tie.Need-is-new-requires Inv-loop μ-loop
+is-new-requires c κs = search needs
+
+array-write-r : tie.Need-array-write-r Inv-loop μ-loop
+array-write-r c = search needs
+
+add-i : tie.Need-add-i Inv-loop μ-loop
+add-i c = search needs
+
+loop-less : tie.Need-loop-less Inv-loop μ-loop
+loop-less c = search needs
+
+loop-again : tie.Need-loop-again Inv-loop μ-loop
+loop-again c = search needs
+
+returns : tie.Need-returns Inv-loop μ-loop
+returns c = search needs
+
+pub marked-spec : {M : Type 1} → statement M
+marked-spec =
+    tie.close
+    (tie.spec
+    Inv-loop
+    μ-loop
+    loop-holds
+    is-new-requires
+    array-write-r
+    add-i
+    loop-less
+    loop-again
+    returns)

@@ -1,0 +1,62 @@
+-- `hand::show::processes_of` is safe and ends. The loop counts the 16 processes. Assumes nothing.
+use Prim.Native.Nat.{_≤_, _-_}
+use borrow.Author.Needs.{needs}
+use Rattle.hand.proofs.show.processes_of.Statement.{statement}
+use Rattle.hand.proofs.show.processes_of.Tie as tie
+
+abbrev Inv-loop : tie.InvT-loop
+Inv-loop node b n i₀ i = i ≤ 16
+
+abbrev μ-loop : tie.MeasureT-loop
+μ-loop node b n i₀ i = 16 - i
+
+wide-requires : tie.Need-wide-requires Inv-loop μ-loop
+wide-requires c κs = search needs
+
+loop-holds : tie.Need-loop-holds Inv-loop μ-loop
+loop-holds c = search needs
+
+element-copy-out-wide : tie.Need-element-copy-out-wide Inv-loop μ-loop
+element-copy-out-wide c = search needs
+
+wide-requires-2 : tie.Need-wide-requires-2 Inv-loop μ-loop
+wide-requires-2 c κs = search needs
+
+mul-process-line : tie.Need-mul-process-line Inv-loop μ-loop
+mul-process-line c = search needs
+
+element-copy-out-process-line : tie.Need-element-copy-out-process-line Inv-loop μ-loop
+element-copy-out-process-line c = search needs
+
+process-line-requires : tie.Need-process-line-requires Inv-loop μ-loop
+process-line-requires c κs = search needs
+
+add-i : tie.Need-add-i Inv-loop μ-loop
+add-i c = search needs
+
+loop-less : tie.Need-loop-less Inv-loop μ-loop
+loop-less c = search needs
+
+loop-again : tie.Need-loop-again Inv-loop μ-loop
+loop-again c = search needs
+
+returns : tie.Need-returns Inv-loop μ-loop
+returns c = search needs
+
+pub processes-of-spec : {M : Type 1} → statement M
+processes-of-spec =
+    tie.close
+    (tie.spec
+    Inv-loop
+    μ-loop
+    wide-requires
+    loop-holds
+    element-copy-out-wide
+    wide-requires-2
+    mul-process-line
+    element-copy-out-process-line
+    process-line-requires
+    add-i
+    loop-less
+    loop-again
+    returns)

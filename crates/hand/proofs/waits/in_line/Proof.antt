@@ -1,0 +1,58 @@
+-- `hand::waits::in_line` is safe and ends. The loop counts the 16 places of a line. Assumes nothing.
+use Prim.Native.Nat.{_≤_, _-_}
+use borrow.Author.Needs.{needs}
+use Rattle.hand.proofs.waits.in_line.Statement.{statement}
+use Rattle.hand.proofs.waits.in_line.Tie as tie
+
+abbrev Inv-loop : tie.InvT-loop
+Inv-loop number o n k₀ k = k ≤ 16
+
+abbrev μ-loop : tie.MeasureT-loop
+μ-loop number o n k₀ k = 16 - k
+
+wide-requires : tie.Need-wide-requires Inv-loop μ-loop
+wide-requires c κs = search needs
+
+loop-holds : tie.Need-loop-holds Inv-loop μ-loop
+loop-holds c = search needs
+
+element-copy-out-t11 : tie.Need-element-copy-out-t11 Inv-loop μ-loop
+element-copy-out-t11 c = search needs
+
+has-requires : tie.Need-has-requires Inv-loop μ-loop
+has-requires c κs = search needs
+
+holders-requires : tie.Need-holders-requires Inv-loop μ-loop
+holders-requires c κs = search needs
+
+ahead-requires : tie.Need-ahead-requires Inv-loop μ-loop
+ahead-requires c κs = search needs
+
+add-k : tie.Need-add-k Inv-loop μ-loop
+add-k c = search needs
+
+loop-less : tie.Need-loop-less Inv-loop μ-loop
+loop-less c = search needs
+
+loop-again : tie.Need-loop-again Inv-loop μ-loop
+loop-again c = search needs
+
+returns : tie.Need-returns Inv-loop μ-loop
+returns c = search needs
+
+pub in-line-spec : {M : Type 1} → statement M
+in-line-spec =
+    tie.close
+    (tie.spec
+    Inv-loop
+    μ-loop
+    wide-requires
+    loop-holds
+    element-copy-out-t11
+    has-requires
+    holders-requires
+    ahead-requires
+    add-k
+    loop-less
+    loop-again
+    returns)

@@ -1,0 +1,195 @@
+// What a typed line asks for, apart from any board.
+use crate::put::wide;
+use crate::say::expected;
+use rules::Command;
+use typed::Typed;
+use typed::Verb;
+
+// What is asked for. Nothing is a line that was answered already.
+pub enum What {
+    Nothing,
+    Open(u8, u8, u8),
+    Step(Command),
+    Drain(usize),
+    Show,
+    Waits,
+    Rings,
+    Undo,
+    Quit,
+}
+
+// An opening's homes stand beside it.
+pub struct Plan {
+    pub what: What,
+    pub process_home: [u8; 16],
+    pub object_home: [u8; 16],
+}
+
+fn plain(what: What) -> Plan {
+    Plan {
+        what,
+        process_home: [0; 16],
+        object_home: [0; 16],
+    }
+}
+
+// A line that is not understood says what was expected.
+fn odd(place: usize, form: &[u8]) -> Plan {
+    expected(place, form);
+    plain(What::Nothing)
+}
+
+// A number as the board takes it: one above 255 is outside every limit, as 255 is.
+fn cut(n: u16) -> u8 {
+    if n < 256 {
+        return n as u8;
+    }
+    255
+}
+
+fn whole(n: u16) -> usize {
+    n as usize
+}
+
+// ---- opening
+// The homes from a place of the row on.
+fn homes(numbers: [u16; 35], from: usize) -> [u8; 16] {
+    let mut r = [0u8; 16];
+    let mut i: usize = 0;
+    while i < 16 {
+        if from < 19 {
+            r[i] = cut(numbers[from + i]);
+        }
+        i += 1;
+    }
+    r
+}
+
+// Number k lives on node k modulo the node count.
+fn in_turn(nodes: u8) -> [u8; 16] {
+    let mut r = [0u8; 16];
+    let mut i: u8 = 0;
+    while i < 16 {
+        if nodes != 0 {
+            r[wide(i)] = i % nodes;
+        }
+        i += 1;
+    }
+    r
+}
+
+fn open(t: Typed) -> Plan {
+    let row = t.numbers;
+    let what = What::Open(cut(row[0]), cut(row[1]), cut(row[2]));
+    let processes = wide(cut(row[1]));
+    let objects = wide(cut(row[2]));
+    if t.odd == 0 {
+        if t.count == 3 {
+            let h = in_turn(cut(row[0]));
+            return Plan {
+                what,
+                process_home: h,
+                object_home: h,
+            };
+        }
+        if t.count == 3 + processes + objects {
+            return Plan {
+                what,
+                process_home: homes(row, 3),
+                object_home: homes(row, 3 + processes),
+            };
+        }
+    }
+    odd(
+        t.odd,
+        b"open NODES PROCESSES OBJECTS, as in open 3 3 2, and after them no home, or one for each process and each object",
+    )
+}
+
+// ---- commands
+fn request(t: Typed) -> Plan {
+    let row = t.numbers;
+    if t.odd == 0 {
+        if t.count == 3 {
+            return plain(What::Step(Command::Request(cut(row[0]), cut(row[1]), cut(row[2]))));
+        }
+    }
+    odd(
+        t.odd,
+        b"request PROCESS OBJECT shared|exclusive, as in request 0 1 x",
+    )
+}
+
+fn release(t: Typed) -> Plan {
+    let row = t.numbers;
+    if t.odd == 0 {
+        if t.count == 2 {
+            return plain(What::Step(Command::Release(cut(row[0]), cut(row[1]))));
+        }
+    }
+    odd(t.odd, b"release PROCESS OBJECT, as in release 0 1")
+}
+
+fn deliver(t: Typed) -> Plan {
+    let row = t.numbers;
+    if t.odd == 0 {
+        if t.count == 1 {
+            return plain(What::Step(Command::Deliver(cut(row[0]))));
+        }
+    }
+    odd(t.odd, b"deliver MESSAGE, as in deliver 0")
+}
+
+// Without a budget: no board needs as many deliveries.
+fn drain(t: Typed) -> Plan {
+    let row = t.numbers;
+    if t.odd == 0 {
+        if t.count == 0 {
+            return plain(What::Drain(65535));
+        }
+        if t.count == 1 {
+            return plain(What::Drain(whole(row[0])));
+        }
+    }
+    odd(t.odd, b"drain, or drain DELIVERIES, as in drain 5")
+}
+
+// A command that takes no number.
+fn alone(t: Typed, what: What) -> Plan {
+    if t.count == 0 {
+        return plain(what);
+    }
+    odd(0, b"nothing after this command")
+}
+
+fn blank() -> Plan {
+    crate::put::text(b"nothing typed; help shows the commands\n");
+    plain(What::Nothing)
+}
+
+fn help() -> Plan {
+    crate::say::help();
+    plain(What::Nothing)
+}
+
+pub fn of(t: Typed) -> Plan {
+    let verb = t.verb;
+    match verb {
+        Verb::Blank => blank(),
+        Verb::Open => open(t),
+        Verb::Request => request(t),
+        Verb::Release => release(t),
+        Verb::Deliver => deliver(t),
+        Verb::Drain => drain(t),
+        Verb::Show => alone(t, What::Show),
+        Verb::Waits => alone(t, What::Waits),
+        Verb::Rings => alone(t, What::Rings),
+        Verb::Undo => alone(t, What::Undo),
+        Verb::Help => help(),
+        Verb::Quit => alone(t, What::Quit),
+        Verb::Unknown => odd(
+            0,
+            b"open, request, release, deliver, drain, show, waits, rings, undo, help or quit",
+        ),
+    }
+}

@@ -1,0 +1,96 @@
+-- `sheet::run` meets its contract: a refused sheet runs nothing, and a good one is run by the bench on its opening. Assumes nothing.
+use native.Mathlib.Omega.{arith}
+use Rattle.sheet.proofs.Order.{few-homes, few-nodes, early-start}
+use Rattle.sheet.proofs.Parts.{rest-of-good}
+use Rattle.sheet.proofs.Runs.{run-refused, run-short, run-good}
+use borrow.Author.Needs.{needs}
+use Rattle.sheet.proofs.run.Statement.{statement}
+use Rattle.sheet.proofs.run.Tie as tie
+
+read-head-requires : tie.Need-read-head-requires
+read-head-requires c κs = search needs
+
+tested-requires : tie.Need-tested-requires
+tested-requires c κs = few-homes (c .before .before .before .args .s .now) (c .read-head .ensures)
+
+number-requires : tie.Need-number-requires
+number-requires c κs = search needs
+
+refused-requires : tie.Need-refused-requires
+refused-requires c κs = search needs
+
+returns : tie.Need-returns
+returns c =
+    let n = c .before .before in
+    let a = n .before .before .before .before .before .args in
+    run-refused (a .s .now) (a .room .now) (n .before .before .read-head .ensures) (n .before .tested .ensures) (n .number .ensures) (c .before .if1 .taken) (c .refused .ensures)
+
+mul-rest-from : tie.Need-mul-rest-from
+mul-rest-from c = omega (arith, early-start (c .before .before .before .before .before .before .args .s .now) (c .before .before .before .read-head .ensures))
+
+rest-from-requires : tie.Need-rest-from-requires
+rest-from-requires c κs = search needs
+
+refused-requires-2 : tie.Need-refused-requires-2
+refused-requires-2 c κs = search needs
+
+returns-2 : tie.Need-returns-2
+returns-2 c =
+    let n = c .before .before .before .before in
+    let a = n .before .before .before .before .before .args in
+    let part = rest-of-good (a .s .now) (n .before .before .read-head .ensures) (n .before .tested .ensures) (n .number .ensures) (c .before .before .before .if1 .left) (c .before .before .rest-from .ensures) in
+    run-short (a .s .now) (a .room .now) (n .before .before .read-head .ensures) (n .before .tested .ensures) (n .number .ensures) (c .before .before .before .if1 .left) part
+    (c .before .if2 .taken) (c .refused2 .ensures)
+
+cast-open : tie.Need-cast-open
+cast-open c =
+    let h = c .before .before .before .before .before .before .before .before in
+    omega (arith, few-nodes (h .before .before .before .args .s .now) (h .read-head .ensures))
+
+cast-open-2 : tie.Need-cast-open-2
+cast-open-2 c =
+    let h = c .before .before .before .before .before .before .before .before .before in
+    omega (arith, few-homes (h .before .before .before .args .s .now) (h .read-head .ensures))
+
+cast-open-3 : tie.Need-cast-open-3
+cast-open-3 c =
+    let h = c .before .before .before .before .before .before .before .before .before .before in
+    omega (arith, few-homes (h .before .before .before .args .s .now) (h .read-head .ensures))
+
+open-requires : tie.Need-open-requires
+open-requires c κs = search needs
+
+run-requires : tie.Need-run-requires
+run-requires c κs = search needs
+
+same-length : tie.Need-same-length
+same-length c = search needs
+
+returns-3 : tie.Need-returns-3
+returns-3 c =
+    let n = c .before .before .before .before .before .before .before .before .before .before .before .before .before .before in
+    let a = n .before .before .before .before .before .args in
+    let part = rest-of-good (a .s .now) (n .before .before .read-head .ensures) (n .before .tested .ensures) (n .number .ensures) (c .before .before .before .before .before .before .before .before .before .before .before .before .before .if1 .left) (c .before .before .before .before .before .before .before .before .before .before .before .before .rest-from .ensures) in
+    run-good (a .s .now) (a .room .now) (n .before .before .read-head .ensures) (n .before .tested .ensures) (n .number .ensures) (c .before .before .before .before .before .before .before .before .before .before .before .before .before .if1 .left) part
+    (c .before .before .before .before .before .before .before .before .before .before .before .if2 .left) (c .before .before .before .before .before .«open» .ensures) (c .before .before .run .ensures)
+
+pub run-spec : {M : Type 1} → statement M
+run-spec =
+    tie.close
+    (tie.spec
+    read-head-requires
+    tested-requires
+    number-requires
+    refused-requires
+    returns
+    mul-rest-from
+    rest-from-requires
+    refused-requires-2
+    returns-2
+    cast-open
+    cast-open-2
+    cast-open-3
+    open-requires
+    run-requires
+    same-length
+    returns-3)

@@ -1,0 +1,55 @@
+-- Laws of decimal numbers: a digit more, and that a number kept at most at the largest one reads the same. Assumes nothing.
+use mathlib.Core.Path.{_≡_, refl, ap}
+use mathlib.Core.Bool.{Bool, true, false}
+use mathlib.Core.List.{List, [], _∷_}
+use Prim.Native.Nat.{ℕ, suc, _+_, _-_, _*_, _/_, _≤_, _<_, min}
+use native.Mathlib.Numerals.{add-one}
+use native.Mathlib.Omega.{arith}
+use lib.ListN.{length, getD, drop, drop-of-length-le}
+use lib.Seq.{drop-cons}
+use borrow.Author.Tests.{le-leb, lt-leb, lt-ltb, le-ltb}
+use Rattle.rules.proofs.Tables.{by-test}
+use Rattle.typed.specs.declared.Meaning.the-variants.{Number, Odd}
+use Rattle.typed.specs.Words.{words}
+use Rattle.typed.specs.Names.{placeIn, modeNames}
+use Rattle.typed.specs.Numbers.{isDigit, largest, decimalFrom, modeOr, meaning}
+
+pub digit : (c : ℕ) → 48 ≤ c → c ≤ 57 → isDigit c ≡ true
+unfolding isDigit
+digit c h l = rw (le-leb 48 c h, le-leb c 57 l)
+
+pub digit-low : (c : ℕ) → c < 48 → isDigit c ≡ false
+unfolding isDigit
+digit-low c h = rw (lt-leb 48 c h)
+
+pub digit-high : (c : ℕ) → 57 < c → isDigit c ≡ false
+unfolding isDigit
+digit-high c h = rw (le-leb 48 c (omega arith), lt-leb c 57 h)
+
+-- two numbers that are cut to the same one
+pub cut : (n m : ℕ) (s : List ℕ) → min largest n ≡ min largest m → decimalFrom n s ≡ decimalFrom m s
+unfolding decimalFrom
+cut n m [] e = ap Number e
+cut n m (c ∷ s) e = by-test (isDigit c) (λ z. rw (decimalFrom, z) (cut (n * 10 + (c - 48)) (m * 10 + (c - 48)) s (omega arith))) (λ z. rw (decimalFrom, z))
+
+pub decimal-goes : (n : ℕ) (w : List ℕ) (i : ℕ) → i < length w → isDigit (getD w i 0) ≡ true
+    → decimalFrom n (drop i w) ≡ decimalFrom (n * 10 + (getD w i 0 - 48)) (drop (i + 1) w)
+unfolding decimalFrom
+decimal-goes n w i h e = rw (add-one, drop-cons w i 0 h, decimalFrom, e)
+
+pub decimal-stops : (n : ℕ) (w : List ℕ) (i : ℕ) → i < length w → isDigit (getD w i 0) ≡ false → decimalFrom n (drop i w) ≡ Odd
+unfolding decimalFrom
+decimal-stops n w i h e = rw (drop-cons w i 0 h, decimalFrom, e)
+
+pub decimal-ends : (n : ℕ) (w : List ℕ) (i : ℕ) → length w ≤ i → decimalFrom n (drop i w) ≡ Number (min largest n)
+unfolding decimalFrom
+decimal-ends n w i h = rw (drop-of-length-le w h)
+
+-- ---- a mode's name, or a number
+pub mode-named : (w : List ℕ) (p : ℕ) → p ≡ placeIn w (words modeNames) → p < 4 → Number (p / 2) ≡ meaning w
+unfolding meaning modeOr
+mode-named w p e h = rw (← e, lt-ltb p 4 h)
+
+pub mode-not : (w : List ℕ) (p : ℕ) → p ≡ placeIn w (words modeNames) → 4 ≤ p → decimalFrom 0 w ≡ meaning w
+unfolding meaning modeOr
+mode-not w p e h = rw (← e, le-ltb p 4 h)

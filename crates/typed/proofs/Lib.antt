@@ -1,0 +1,6 @@
+-- Laws of words, names and numbers, which the proofs of the functions cite.
+pub mod Runs
+pub mod Naming
+pub mod Decimals
+pub mod Lines
+pub mod Examples

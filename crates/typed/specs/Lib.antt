@@ -1,0 +1,6 @@
+-- What a typed line says, as definitions: its words, the names that they may be, and the numbers.
+pub mod Words
+pub mod Names
+pub mod Numbers
+pub mod Reading
+pub mod Spans

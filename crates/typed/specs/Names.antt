@@ -1,0 +1,49 @@
+-- The names of the verbs and of the modes, each in a long and a short form; upper and lower case letters are alike.
+use Prim.Native.Nat.{ℕ, suc, _+_, _/_}
+use Prim.Native.Char.{code}
+use Prim.Native.String as Text
+use mathlib.Core.Bool.{Bool, true, false, _&&_}
+use mathlib.Core.List.{List, [], _∷_}
+use lib.Dec.{eqb, leb}
+use lib.ListN.{getD}
+use Rattle.rules.specs.Tables.{pick}
+use Rattle.typed.specs.declared.Verb.{Verb}
+use Rattle.typed.specs.declared.Verb.the-variants.{Open, Request, Release, Deliver, Drain, Show, Waits, Rings, Undo, Help, Quit, Unknown}
+use Rattle.typed.specs.Words.{words}
+
+abbrev pub bytes : Text.String → List ℕ
+bytes Text.[] = []
+bytes (Text._∷_ c s) = code c ∷ bytes s
+
+-- the letter in lower case; any other byte as it is
+abbrev pub lower : ℕ → ℕ
+lower c = pick (leb 65 c && leb c 90) (c + 32) c
+
+-- a word is a name, which is written in lower case
+unfoldable pub alike : List ℕ → List ℕ → Bool
+alike [] [] = true
+alike [] (n ∷ ns) = false
+alike (c ∷ w) [] = false
+alike (c ∷ w) (n ∷ ns) = pick (eqb (lower c) n) (alike w ns) false
+
+-- the place of a word among names; the number of names where it is none of them
+unfoldable pub placeIn : List ℕ → List (List ℕ) → ℕ
+placeIn w [] = 0
+placeIn w (n ∷ ns) = elim (alike w n) [ true ↦ 0 | false ↦ suc (placeIn w ns) ]
+
+-- ---- the verbs
+abbrev pub verbNames : List ℕ
+verbNames = bytes "open o request r release re deliver d drain dr show s waits w rings ri undo u help h quit q"
+
+abbrev pub verbs : List Verb
+verbs = Open ∷ Request ∷ Release ∷ Deliver ∷ Drain ∷ Show ∷ Waits ∷ Rings ∷ Undo ∷ Help ∷ Quit ∷ []
+
+abbrev pub verbAt : ℕ → Verb
+verbAt n = getD verbs n Unknown
+
+unfoldable pub verbOf : List ℕ → Verb
+verbOf w = verbAt (placeIn w (words verbNames) / 2)
+
+-- ---- the modes: their names stand in the order of their numbers
+abbrev pub modeNames : List ℕ
+modeNames = bytes "shared s exclusive x"

@@ -1,0 +1,94 @@
+// The names of the verbs and of the modes.
+ghost use mathlib.Core.Path.{_≡_};
+ghost use Prim.Native.Nat.{_≤_};
+ghost use lib.ListN.{length};
+ghost use Rattle.typed.specs.Names as Names;
+ghost use Rattle.typed.specs.Words as Words;
+use crate::Verb;
+
+// The letter in lower case; any other byte as it is.
+fn lower(c: u8) -> u8
+    ensures { λ r. ⌜ r ≡ Names.lower c ⌝ }
+{
+    if c < b'A' {
+        return c;
+    }
+    if b'Z' < c {
+        return c;
+    }
+    c + 32
+}
+
+// A word is a name, upper and lower case letters alike.
+fn alike(word: &[u8], name: &[u8]) -> bool
+    ensures { λ r. ⌜ r ≡ Names.alike (now (word .entry)) (now (name .entry)) ⌝ }
+{
+    if word.len() != name.len() {
+        return false;
+    }
+    let mut i = 0;
+    while i < word.len() {
+        if lower(word[i]) != name[i] {
+            return false;
+        }
+        i += 1;
+    }
+    true
+}
+
+// The place of a word among the names of a table, which are parted by blanks; their number where it is none of them.
+pub fn place_in(word: &[u8], table: &[u8]) -> usize
+    ensures { λ r. ⌜ r ≡ Names.placeIn (now (word .entry)) (Words.words (now (table .entry))) ⌝ }
+{
+    let mut at = 0;
+    let mut k = 0;
+    loop {
+        let name = crate::words::next_word(table, at);
+        let start = name.start;
+        let end = name.end;
+        if table.len() <= start {
+            return k;
+        }
+        if alike(word, &table[start..end]) {
+            return k;
+        }
+        at = end;
+        k += 1;
+    }
+}
+
+// The verbs in the order of their names.
+fn verb_at(n: usize) -> Verb
+    ensures { λ r. ⌜ r ≡ Names.verbAt n ⌝ }
+{
+    let verbs = [
+        Verb::Open,
+        Verb::Request,
+        Verb::Release,
+        Verb::Deliver,
+        Verb::Drain,
+        Verb::Show,
+        Verb::Waits,
+        Verb::Rings,
+        Verb::Undo,
+        Verb::Help,
+        Verb::Quit,
+    ];
+    if n < 11 {
+        return verbs[n];
+    }
+    Verb::Unknown
+}
+
+// The verb that a word names. Each has a long and a short form.
+pub fn verb_of(word: &[u8]) -> Verb
+    ensures { λ r. ⌜ r ≡ Names.verbOf (now (word .entry)) ⌝ }
+{
+    verb_at(
+        place_in(
+            word,
+            b"open o request r release re deliver d drain dr show s waits w rings ri undo u help h quit q",
+        )
+            / 2,
+    )
+}

@@ -1,0 +1,54 @@
+// What a word after the verb stands for.
+ghost use mathlib.Core.Path.{_≡_};
+ghost use Prim.Native.Nat.{_+_, _-_, _*_, _≤_, min};
+ghost use Rattle.typed.specs.Numbers as Numbers;
+use crate::Meaning;
+
+fn wide(c: u8) -> u32
+    ensures { λ r. ⌜ r ≡ c ⌝ }
+{
+    c as u32
+}
+
+// The number with a digit more behind it, or the largest.
+fn with_digit(n: u32, c: u8) -> u32
+    requires { ⌜ (n ≤ 65535) × (48 ≤ c) × (c ≤ 57) ⌝ }
+    ensures { λ r. ⌜ r ≡ min Numbers.largest (n * 10 + (c - 48)) ⌝ }
+{
+    let more = n * 10 + wide(c - 48);
+    if more < 65535 {
+        return more;
+    }
+    65535
+}
+
+// A decimal number: digits alone.
+fn decimal(word: &[u8]) -> Meaning
+    ensures { λ r. ⌜ r ≡ Numbers.decimalFrom 0 (now (word .entry)) ⌝ }
+{
+    let mut n: u32 = 0;
+    let mut i = 0;
+    while i < word.len() {
+        let c = word[i];
+        if c < b'0' {
+            return Meaning::Odd;
+        }
+        if b'9' < c {
+            return Meaning::Odd;
+        }
+        n = with_digit(n, c);
+        i += 1;
+    }
+    Meaning::Number(n as u16)
+}
+
+// A number, or the number of the mode that the word names.
+pub fn meaning(word: &[u8]) -> Meaning
+    ensures { λ r. ⌜ r ≡ Numbers.meaning (now (word .entry)) ⌝ }
+{
+    let place = crate::names::place_in(word, b"shared s exclusive x");
+    if place < 4 {
+        return Meaning::Number((place / 2) as u16);
+    }
+    decimal(word)
+}
