@@ -1,17 +1,16 @@
 -- A release lets in one after another: one grant at a time, with the book on the board.
+use mathlib.Core.List.{[]}
 use mathlib.Core.Path.{_≡_, refl, sym, ap, _∙_}
 use mathlib.Core.Bool.{Bool, true, false, _&&_}
-use mathlib.Core.List.{List, [], _∷_}
 use Prim.Native.Nat.{ℕ, zero, suc, _-_, _<_}
 use native.Mathlib.Omega.{arith}
-use lib.Dec.{ltb}
 use borrow.Author.Tests.{lt-ltb, ltb-true}
-use lib.ListN.{set, getD, length}
+use lib.Dec.{ltb}
+use lib.ListN.{length}
 use lib.Seq.{set-getD, set-set, getD-set-same, lt-length-set}
 use Rattle.rules.specs.declared.Board.{Board}
 use Rattle.rules.specs.declared.Object.{Object}
 use Rattle.rules.specs.declared.Message.{Message}
-use Rattle.rules.specs.declared.Mode.{Mode}
 use Rattle.rules.specs.declared.Kind.the-variants.{Grant}
 use Rattle.rules.specs.Tables.{pick}
 use Rattle.rules.specs.Bits.{lowestFree}

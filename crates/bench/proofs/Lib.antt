@@ -4,6 +4,7 @@ pub mod Granting
 pub mod Sends
 pub mod Releases
 pub mod Turns
+pub mod Working
 pub mod Packing
 pub mod Homes
 pub mod Calls

@@ -1,25 +1,21 @@
 -- One command by value: packed into two bytes it is the command itself, its answer's number stands for its answer, and a number that
 -- no packed field holds is refused by its first tests.
-use mathlib.Core.Path.{_≡_, refl, sym, ap, _∙_}
+use mathlib.Core.Path.{_≡_, refl, _∙_}
 use mathlib.Core.Logic.{_≢_}
-use mathlib.Core.Bool.{Bool, true, false, not, _&&_}
 use mathlib.Core.List.{List, [], _∷_}
 use Prim.Native.Nat.{ℕ, zero, suc, _+_, _*_, _/_, _%_, _≤_, _<_}
 use native.Mathlib.Omega.{arith}
-use borrow.Author.Tests.{lt-ltb, le-ltb, le-leb, lt-leb, eq-eqb, ne-eqb}
-use lib.Dec.{ltb, leb}
+use borrow.Author.Tests.{lt-ltb, le-ltb, le-leb, lt-leb}
 use lib.ListN.{getD, length}
 use Rattle.rules.specs.declared.Board.{Board}
-use Rattle.rules.specs.declared.Command.{Command}
 use Rattle.rules.specs.declared.Command.the-variants as Do
 use Rattle.rules.specs.declared.Answer.{Answer}
 use Rattle.rules.specs.declared.Answer.the-variants.{Done, CountOutside, HomeOutside, NoProcess, NoObject, NoMode, ProcessWaits, HasReleased, HoldsAlready, HoldsNot, LoadTooHigh, NoMessage, SheetCut, WrongForm, SpareBit, OddByte, TooManyCommands, OutOfShape, RoomTooShort}
 use Rattle.rules.specs.declared.Stepped.{Stepped}
-use Rattle.rules.specs.Tables.{pick}
 use Rattle.rules.specs.Answers.{number, firstOf}
 use Rattle.rules.specs.Commands.{answerTo, turn}
 use Rattle.rules.specs.Sheet.{commandAt, boardAfter, roomAfter}
-use Rattle.rules.proofs.Sheet.{ofBytes, command-bytes}
+use Rattle.rules.proofs.Sheet.{command-bytes}
 use Rattle.bench.specs.Packed.{answers, answerOf}
 
 -- ---- numbers of answers

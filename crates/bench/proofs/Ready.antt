@@ -1,8 +1,8 @@
 -- Every command keeps what the engine rests on; and the load that it carries along fits its word.
-use mathlib.Core.Path.{_≡_, refl, sym, ap, _∙_}
+use mathlib.Core.Path.{_≡_, _∙_}
 use mathlib.Core.Bool.{Bool, true, false}
 use mathlib.Core.List.{List, [], _∷_}
-use Prim.Native.Nat.{ℕ, zero, suc, _+_, _≤_, _<_}
+use Prim.Native.Nat.{ℕ, zero, suc, _≤_}
 use native.Mathlib.Omega.{arith}
 use lib.Dec.{eqb}
 use lib.ListN.{length, length-set}
@@ -14,7 +14,7 @@ use Rattle.rules.specs.declared.Looked.{Looked}
 use Rattle.rules.specs.declared.Board.{Board}
 use Rattle.rules.specs.declared.Command.{Command}
 use Rattle.rules.specs.declared.Command.the-variants as Do
-use Rattle.rules.specs.Tables.{pick, sum}
+use Rattle.rules.specs.Tables.{pick}
 use Rattle.rules.specs.Answers.{done}
 use Rattle.rules.specs.Book.{releaseArrives}
 use Rattle.rules.specs.Home.{asking, dropping}

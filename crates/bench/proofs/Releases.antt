@@ -1,8 +1,7 @@
 -- A release on the engine's board: nobody is let in, one is, or several are. A grant to the front leaves the load as it was: one less
 -- in the line, one more message.
 use mathlib.Core.Path.{_≡_, refl, sym, ap, _∙_}
-use mathlib.Core.Bool.{Bool, true, false}
-use mathlib.Core.List.{List, [], _∷_, _++_}
+use mathlib.Core.Bool.{true, false}
 use Prim.Native.Nat.{ℕ, suc, _+_, _-_, _≤_, _<_}
 use native.Mathlib.Omega.{arith}
 use borrow.Author.Tests.{ltb-true}
@@ -12,19 +11,18 @@ use lib.Seq.{getD-set-same}
 use Rattle.rules.specs.declared.Kind.{Kind}
 use Rattle.rules.specs.declared.Kind.the-variants.{Grant}
 use Rattle.rules.specs.declared.Entries.{Entries}
-use Rattle.rules.specs.declared.Message.{Message}
 use Rattle.rules.specs.declared.Object.{Object}
 use Rattle.rules.specs.declared.Board.{Board}
 use Rattle.rules.specs.Bits.{withBit, lowestFree}
-use Rattle.rules.specs.Book.{whoAt, modeAt, held, struck, frontClear, withoutFront, frontGranted}
-use Rattle.rules.specs.Lists.{noEntries, plain}
+use Rattle.rules.specs.Book.{whoAt, modeAt, held, struck, frontClear, frontGranted}
+use Rattle.rules.specs.Lists.{noEntries}
 use Rattle.rules.specs.Board.{with, noObject, objectAt, putObject, send, load}
 use Rattle.rules.specs.Ranges.{LineRanged}
 use Rattle.rules.proofs.Tables.{both-left}
 use Rattle.rules.proofs.Book.{front-left-size, front-left-who}
 use Rattle.rules.proofs.Load.{Matched, load-object}
 use Rattle.bench.specs.Grants.{frontGoes, grantsLeft, LineAt}
-use Rattle.bench.proofs.Granting.{book-sent, grants-end, grants-go}
+use Rattle.bench.proofs.Granting.{grants-end, grants-go}
 use Rattle.bench.proofs.Sends.{Made, sent-here}
 
 -- ---- lines stay ranged
@@ -40,6 +38,12 @@ line-is x y e r = rw e r
 pub some-stand : (o : Object) → frontGoes o ≡ true → 0 < o .«line_count»
 some-stand o f = ltb-true 0 (o .«line_count») (both-left (ltb 0 (o .«line_count»)) (frontClear o) f)
 
+-- the front of the line of object o is let in, on board x of load w, with the book `next` in its place; nobody or more are let in after it
+pub record LetIn (x : Board) (w o : ℕ) (next : Object) (last : Board) : Type 0 where
+  pub line : LineRanged next → LineAt x o
+  pub ends : frontGoes next ≡ false → Made x w last
+  pub goes : (r : Board) (v : ℕ) → r ≡ grantsLeft x o → v ≡ load r → Made r v last
+
 -- ---- board y has load w; book x, with as long a line as the old one, goes to place i; what is left of the grants makes the last board
 module _ (y : Board) (w : ℕ) (ew : w ≡ load y) (i : ℕ) (h : i < 16) (z : length (y .objects) ≡ 16) (x : Object) (ec : x .«line_count» ≡ objectAt y i .«line_count») (last : Board) (el : grantsLeft (putObject y i x) i ≡ last) where
   inside : i < length (y .objects)
@@ -54,7 +58,7 @@ module _ (y : Board) (w : ℕ) (ew : w ≡ load y) (i : ℕ) (h : i < 16) (z : l
   -- the front is let in: its grant takes the lowest free number t
   module _ (f : frontGoes x ≡ true) (o : ℕ) (ei : i ≡ o) (next : Object) (en : next ≡ frontGranted x) (out : Kind) (ek : out ≡ Grant (whoAt x 0) o (modeAt x 0)) (none : Entries) (ez : none ≡ noEntries)
       (u : length (y .flights) ≡ 64) (m : Matched y) (t occ : ℕ) (et : t ≡ lowestFree (y .occupied)) (eo : occ ≡ withBit (y .occupied) t) (l : t < 64) where
-    abbrev pub firstGranted : Board
+    abbrev firstGranted : Board
     firstGranted = with y (y .processes) (set (y .objects) i next) occ (set (y .flights) t (record { kind = out })) (set (y .lists) t none) (y .rings)
 
     -- one stands less in the line
@@ -70,7 +74,7 @@ module _ (y : Board) (w : ℕ) (ew : w ≡ load y) (i : ℕ) (h : i < 16) (z : l
     book-stands : objectAt firstGranted i ≡ next
     book-stands = getD-set-same (y .objects) i next noObject inside
 
-    pub rest-line : LineRanged next → LineAt firstGranted o
+    rest-line : LineRanged next → LineAt firstGranted o
     rest-line r = record {
       small = omega (arith, ei);
       inside = omega (arith, ei, length-set (y .objects) i next);
@@ -80,8 +84,11 @@ module _ (y : Board) (w : ℕ) (ew : w ≡ load y) (i : ℕ) (h : i < 16) (z : l
     left : grantsLeft firstGranted i ≡ last
     left = ap (λ (b : Board). grantsLeft b i) (sent .board) ∙ rw (ek, ez, en, ← ei) (sym (grants-go y i x inside f)) ∙ el
 
-    pub one-granted : frontGoes next ≡ false → Made firstGranted w last
+    one-granted : frontGoes next ≡ false → Made firstGranted w last
     one-granted g = record { board = sym (grants-end firstGranted i next book-stands g) ∙ left; weight = omega (arith, sent .weight, load-some) }
 
-    pub more-granted : (r : Board) (v : ℕ) → r ≡ grantsLeft firstGranted o → v ≡ load r → Made r v last
+    more-granted : (r : Board) (v : ℕ) → r ≡ grantsLeft firstGranted o → v ≡ load r → Made r v last
     more-granted r v er ev = record { board = er ∙ rw (← ei) left; weight = ev }
+
+    pub first-granted : LetIn firstGranted w o next last
+    first-granted = record { line = rest-line; ends = one-granted; goes = more-granted }

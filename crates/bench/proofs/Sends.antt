@@ -21,15 +21,15 @@ use Rattle.rules.specs.declared.Arrived.{Arrived}
 use Rattle.rules.specs.declared.Looked.{Looked}
 use Rattle.rules.specs.declared.Board.{Board}
 use Rattle.rules.specs.Tables.{pick, among}
-use Rattle.rules.specs.Bits.{taken, withBit, withoutBit, lowestFree}
+use Rattle.rules.specs.Bits.{withBit, withoutBit, lowestFree}
 use Rattle.rules.specs.Book.{placeIn, waitedFor, modeAt, struck, releaseArrives}
 use Rattle.rules.specs.Home.{granted}
-use Rattle.rules.specs.Lists.{noEntries, plain, nothing, starterOf, askedOf, listAtHome, looking, noRing, listAtObject, keeping, requestArrives, addAll, entryDone}
+use Rattle.rules.specs.Lists.{noEntries, nothing, starterOf, askedOf, listAtHome, looking, noRing, listAtObject, keeping, requestArrives, entryDone}
 use Rattle.rules.specs.Board.{with, noFlight, processAt, objectAt, kindAt, listAt, ringAt, putProcess, putObject, putRing, putMessage, freed, isMessage, send, kindLoad, load}
-use Rattle.rules.specs.Commands.{recording, arriving, delivered}
+use Rattle.rules.specs.Commands.{recording, delivered}
 use Rattle.rules.proofs.Bits.{without-same, lowest-free, lowest-free-some}
 use Rattle.rules.proofs.Tables.{not-passed, not-failed}
-use Rattle.rules.proofs.Load.{Matched, message-load, no-message, matched-free, send-sent, load-process, load-freed, load-free-number, load-object}
+use Rattle.rules.proofs.Load.{Matched, message-load, no-message, matched-free, send-sent, load-freed, load-free-number, load-object}
 use Rattle.bench.specs.Grants.{grantsLeft}
 use Rattle.bench.proofs.Granting.{grants-from}
 

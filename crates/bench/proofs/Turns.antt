@@ -1,14 +1,12 @@
 -- What a turn answers and makes, by the parts that the engine asks: the refusals but the load, then the load, or the number in flight.
-use mathlib.Core.Path.{_≡_, refl, sym, ap, _∙_}
+use mathlib.Core.Path.{_≡_, refl, _∙_}
 use mathlib.Core.Logic.{_≢_}
-use mathlib.Core.Bool.{Bool, true, false, not, _&&_}
+use mathlib.Core.Bool.{Bool, true, false, not}
 use mathlib.Core.List.{List, [], _∷_}
-use Prim.Native.Nat.{ℕ, zero, suc, _+_, _*_, _/_, _%_, _≤_, _<_}
+use Prim.Native.Nat.{ℕ, zero, suc, _≤_, _<_}
 use native.Mathlib.Omega.{arith}
-use native.Mathlib.Numerals.{add-one}
-use borrow.Author.Tests.{eq-eqb, ne-eqb, lt-ltb, le-ltb}
+use borrow.Author.Tests.{ne-eqb, lt-ltb, le-ltb}
 use lib.Dec.{eqb, ltb, leb}
-use lib.ListN.{set, getD, length, length-set}
 use Rattle.rules.specs.declared.Board.{Board}
 use Rattle.rules.specs.declared.Process.{Process}
 use Rattle.rules.specs.declared.Kind.{Kind}
@@ -24,11 +22,8 @@ use Rattle.rules.specs.Answers.{number, done, firstOf}
 use Rattle.rules.specs.Home.{isWaiting, holding}
 use Rattle.rules.specs.Lists.{noEntries, plain}
 use Rattle.rules.specs.Board.{processAt, putProcess, send, kindLoad, load}
-use Rattle.rules.specs.Commands.{modeOf, requested, released, delivered, effect, answerTo, answered, turn}
-use Rattle.rules.specs.declared.Stepped.{Stepped}
-use Rattle.rules.specs.Sheet.{byKind, commandAt, boardAfter, roomAfter}
-use Rattle.rules.proofs.Sheet.{ofBytes, command-bytes}
-use Rattle.bench.proofs.Sends.{Made}
+use Rattle.rules.specs.Commands.{modeOf, requested, released, delivered, effect, answerTo, turn}
+use Rattle.rules.specs.Sheet.{byKind}
 use Rattle.books.specs.Tests.{homeRequestTests, homeReleaseTests}
 use Rattle.bench.specs.Packed.{homeAnswer, topLoad, bookAfter, kindSent}
 
@@ -70,6 +65,12 @@ release-chain false false true t9 heavy = refl
 release-chain false false false true heavy = refl
 release-chain false false false false heavy = refl
 
+-- the ways of a request or a release: its home's answer a, the highest load at which it is taken, and the load w
+pub record HomeWays (b : Board) (c : Command) (a most w : ℕ) (new : Board) : Type 0 where
+  pub refused : a ≢ 0 → Turns b c a b
+  pub heavy : a ≡ 0 → (top : ℕ) → top ≡ most → top < w → Turns b c 10 b
+  pub light : a ≡ 0 → (top : ℕ) → top ≡ most → w ≤ top → Turns b c 0 new
+
 -- ---- a command by its kind
 module _ (b : Board) (p o n : ℕ) where
   abbrev pub packed : ℕ → Command
@@ -104,18 +105,24 @@ module _ (b : Board) (p o n : ℕ) where
     unfolding homeAnswer
     at-home = ea ∙ rw (eo, eb)
 
-    pub refused : a ≢ 0 → Turns b (packed k) a b
-    refused z = rw at-home (refuses b (packed k) (firstOf (homeTests k (processAt b p))) (home-answers k h ∙ rw (ne-eqb _ 0 (λ e. z (at-home ∙ e)))) (λ e. z (at-home ∙ e)))
+    chain : answerTo b (packed k) ≡ withLoad (firstOf (homeTests k (processAt b p))) (ltb (topLoad k) (load b))
+    chain = home-answers k h
 
-    module _ (z : a ≡ 0) (top w : ℕ) (et : top ≡ topLoad k) (ew : w ≡ load b) where
+    home-refuses : a ≢ 0 → Turns b (packed k) a b
+    home-refuses z = rw at-home (refuses b (packed k) (firstOf (homeTests k (processAt b p))) (chain ∙ rw (ne-eqb _ 0 (λ e. z (at-home ∙ e)))) (λ e. z (at-home ∙ e)))
+
+    module _ (w : ℕ) (ew : w ≡ load b) (z : a ≡ 0) (top : ℕ) (et : top ≡ topLoad k) where
       loaded : answerTo b (packed k) ≡ pick (ltb top w) LoadTooHigh Done
-      loaded = home-answers k h ∙ rw (← at-home, z, et, ew)
+      loaded = chain ∙ rw (← at-home, z, et, ew)
 
-      pub heavy : top < w → Turns b (packed k) 10 b
-      heavy l = refuses b (packed k) LoadTooHigh (loaded ∙ rw (lt-ltb top w l)) (λ e. omega (arith, e))
+      load-refuses : top < w → Turns b (packed k) 10 b
+      load-refuses l = refuses b (packed k) LoadTooHigh (loaded ∙ rw (lt-ltb top w l)) (λ e. omega (arith, e))
 
-      pub light : w ≤ top → Turns b (packed k) 0 (made k)
-      light l = rw (← home-makes k h) (accepts b (packed k) (loaded ∙ rw (le-ltb top w l)))
+      load-accepts : w ≤ top → Turns b (packed k) 0 (made k)
+      load-accepts l = rw (← home-makes k h) (accepts b (packed k) (loaded ∙ rw (le-ltb top w l)))
+
+    pub home-ways : (w : ℕ) → w ≡ load b → HomeWays b (packed k) a (topLoad k) w (made k)
+    home-ways w ew = record { refused = home-refuses; heavy = load-refuses w ew; light = load-accepts w ew }
 
     -- what the code writes and sends
     pub makes : (i : ℕ) (new : Process) (out : Kind) (none : Entries) → i ≡ p → new ≡ bookAfter k book o′ → out ≡ kindSent k p o′ → none ≡ noEntries
@@ -146,37 +153,3 @@ sent-counts k p o = go (eqb k 2)
     go : (t : Bool) → kindLoad (pick t (Release p o) (Request p o (modeOf k))) ≢ 0
     go true e = omega (arith, e)
     go false e = omega (arith, e)
-
--- ---- the loop: board, room and load after i commands
-pub record Going (b₀ : Board) (s r₀ : List ℕ) (n i : ℕ) (b : Board) (r : List ℕ) (w : ℕ) : Type 0 where
-  pub within : i ≤ n
-  pub whole : n ≡ length s / 2
-  pub size : length r ≡ length r₀
-  pub fits : n ≤ length r₀
-  pub board : b ≡ boardAfter b₀ s i
-  pub room : r ≡ roomAfter b₀ s r₀ i
-  pub weight : w ≡ load b
-
-module _ (b₀ : Board) (s r₀ : List ℕ) (n i : ℕ) (b : Board) (r : List ℕ) (w : ℕ) (v : Going b₀ s r₀ n i b r w) (l : i < n) (hi : getD s (2 * i) 0 < 256) (lo : getD s (2 * i + 1) 0 < 256) (a : ℕ) (y : Board) (t : Turns b (ofBytes (getD s (2 * i) 0) (getD s (2 * i + 1) 0)) a y) where
-  turned : turn (boardAfter b₀ s i) (commandAt s i) ≡ turn b (ofBytes (getD s (2 * i) 0) (getD s (2 * i + 1) 0))
-  turned = rw (← v .board, command-bytes s i hi lo)
-
-  board-on : (x : Board) → x ≡ y → x ≡ boardAfter b₀ s (i + 1)
-  unfolding boardAfter
-  board-on x h = rw add-one (h ∙ sym (t .board) ∙ ap (λ (z : Stepped). z .board) (sym turned))
-
-  room-on : set r i a ≡ roomAfter b₀ s r₀ (i + 1)
-  unfolding roomAfter
-  room-on = rw (add-one, v .room) (ap (set (roomAfter b₀ s r₀ i) i) (sym (t .answer) ∙ ap (λ (z : Stepped). number (z .answer)) (sym turned)))
-
-  -- one turn on
-  pub going-on : (x : Board) (u : ℕ) → Made x u y → Going b₀ s r₀ n (i + 1) x (set r i a) u
-  going-on x u m = record {
-    within = omega arith;
-    whole = v .whole;
-    size = length-set r i a ∙ v .size;
-    fits = v .fits;
-    board = board-on x (m .board);
-    room = room-on;
-    weight = m .weight;
-  }

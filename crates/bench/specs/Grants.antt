@@ -1,6 +1,6 @@
 -- What is left of a release once the holder is struck: the front of the line is granted while it conflicts with no holder.
-use Prim.Native.Nat.{ℕ, _<_}
 use mathlib.Core.Bool.{Bool, _&&_}
+use Prim.Native.Nat.{ℕ, _<_}
 use lib.Dec.{ltb}
 use lib.ListN.{length}
 use Rattle.rules.specs.declared.Board.{Board}

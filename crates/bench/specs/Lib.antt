@@ -2,3 +2,4 @@
 pub mod Packed
 pub mod Grants
 pub mod Ready
+pub mod Work

@@ -1,6 +1,6 @@
 -- What a request and a release have in common, by the kind of a packed command: 0 shared request, 1 exclusive request, 2 release.
-use Prim.Native.Nat.{ℕ}
 use mathlib.Core.List.{List, [], _∷_}
+use Prim.Native.Nat.{ℕ}
 use lib.Dec.{eqb}
 use lib.ListN.{getD}
 use Rattle.rules.specs.declared.Process.{Process}
@@ -18,7 +18,7 @@ use Rattle.books.specs.Tests.{homeRequestTests, homeReleaseTests}
 unfoldable pub homeAnswer : ℕ → ℕ → ℕ → ℕ → ℕ → Process → ℕ
 homeAnswer kind p o processes objects book = number (firstOf (pick (eqb kind 2) (homeReleaseTests p o processes objects book) (homeRequestTests p o processes objects book)))
 
--- "a request only while the load is at most 62, a release at most 63"
+-- the highest load at which the command is taken
 abbrev pub topLoad : ℕ → ℕ
 topLoad kind = pick (eqb kind 2) 63 62
 

@@ -16,7 +16,8 @@ pub fn once(b: Board, hi: u8, lo: u8) -> Stepped
 {
     let s = [hi, lo];
     let mut room = [0u8; 1];
-    let next = crate::engine::turns(b, &s, &mut room);
+    let r = crate::engine::turns(b, &s, false, 1, &mut room);
+    let next = r.board;
     Stepped {
         answer: crate::answer::answer_of(room[0]),
         board: next,

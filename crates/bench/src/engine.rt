@@ -1,28 +1,31 @@
 // The engine of the board: one loop that holds the board as one local and does every write. A handler sees small records alone.
-ghost use mathlib.Core.Path.{_≡_};
-ghost use Prim.Native.Nat.{_≤_, _/_};
-ghost use lib.ListN.{length};
-ghost use Rattle.rules.specs.Sheet.{boardAfter, roomAfter};
 ghost use Rattle.bench.specs.Ready.{Ready};
+ghost use Rattle.bench.specs.Work.{Reach, Worked};
 use books::bits::wide;
+use rules::Answer;
 use rules::Board;
 use rules::Flight;
 use rules::Kind;
+use rules::Ran;
 
-// Each command of the slice, two bytes a command, on the board; each answer's number into the room.
-pub fn turns(start: Board, s: &[u8], room: &mut [u8]) -> Board
-    requires { ⌜ Ready start × (length (now s) / 2 ≤ length (now room)) ⌝ }
-    ensures { λ r. ⌜ (r ≡ boardAfter start (now (s .entry)) (length (now (s .entry)) / 2)) × (now (room .exit) ≡ roomAfter start (now (s .entry)) (now (room .entry)) (length (now (s .entry)) / 2)) ⌝ }
+// Each command of the slice, two bytes a command, on the board; each answer's number into the room. Or, with `lowest`, the lowest number
+// in flight is delivered again and again, until none is left. At most so many turns.
+pub fn turns(start: Board, s: &[u8], lowest: bool, most: usize, room: &mut [u8]) -> Ran
+    requires { ⌜ Ready start × Reach lowest (now s) most (now room) ⌝ }
+    ensures { λ r. ⌜ Worked lowest start (now (s .entry)) most (now (room .entry)) r (now (room .exit)) ⌝ }
 {
     let mut b = start;
-    let n = s.len() / 2;
     let free = Flight { kind: Kind::Free };
     let none = crate::message::no_entries();
     let mut weight = shape::load(b);
     let mut i: usize = 0;
-    while i < n {
-        let hi = s[2 * i];
-        let lo = s[2 * i + 1];
+    while i < most {
+        if crate::next::is_over(lowest, b.occupied) {
+            break;
+        }
+        let hi = crate::next::first_byte(s, i, lowest, b.occupied);
+        let lo = crate::next::second_byte(s, i, lowest);
+        let at_room = crate::next::answer_place(i, lowest);
         let kind = hi / 64;
         match kind {
             0..=2 => {
@@ -39,16 +42,16 @@ pub fn turns(start: Board, s: &[u8], room: &mut [u8]) -> Board
                     book,
                 );
                 if answer != 0 {
-                    room[i] = answer;
+                    room[at_room] = answer;
                     i += 1;
                     continue;
                 }
                 if crate::packed::top_load(kind) < weight {
-                    room[i] = 10;
+                    room[at_room] = 10;
                     i += 1;
                     continue;
                 }
-                room[i] = 0;
+                room[at_room] = 0;
                 i += 1;
                 let process = crate::packed::book_after(kind, book, o);
                 b.processes[pi] = process;
@@ -64,11 +67,11 @@ pub fn turns(start: Board, s: &[u8], room: &mut [u8]) -> Board
             _ => {
                 let num = hi % 64;
                 if !books::bits::has(b.occupied, num) {
-                    room[i] = 11;
+                    room[at_room] = 11;
                     i += 1;
                     continue;
                 }
-                room[i] = 0;
+                room[at_room] = 0;
                 i += 1;
                 let at = wide(num);
                 let arrived = b.flights[at];
@@ -178,5 +181,9 @@ pub fn turns(start: Board, s: &[u8], room: &mut [u8]) -> Board
             }
         }
     }
-    b
+    Ran {
+        answer: Answer::Done,
+        commands: i,
+        board: b,
+    }
 }

@@ -15,11 +15,11 @@ use rules::Stepped;
 
 mod answer;
 mod commands;
-mod draining;
 mod engine;
 mod grants;
 mod guard;
 mod message;
+mod next;
 mod opening;
 mod packed;
 
@@ -112,12 +112,7 @@ pub fn run(b: Board, s: &[u8], room: &mut [u8]) -> Ran
             board: b,
         };
     }
-    let next = engine::turns(b, s, room);
-    Ran {
-        answer: Answer::Done,
-        commands: n,
-        board: next,
-    }
+    engine::turns(b, s, false, n, room)
 }
 
 // The lowest-numbered message arrives, again and again, until none is left or the budget is used.
@@ -131,7 +126,15 @@ pub fn drain(b: Board, budget: usize) -> Drained
             board: b,
         };
     }
-    draining::draining(b, budget)
+    let s = [0u8; 2];
+    let mut room = [0u8; 1];
+    let r = engine::turns(b, &s, true, budget, &mut room);
+    let next = r.board;
+    Drained {
+        answer: Answer::Done,
+        made: r.commands,
+        board: next,
+    }
 }
 
 // The number of an answer.

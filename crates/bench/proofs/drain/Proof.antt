@@ -1,7 +1,10 @@
-use mathlib.Core.Path.{_≡_, refl, sym, ap, _∙_}
+-- `bench::drain` meets its contract: the shape first. Assumes nothing.
+use mathlib.Core.Path.{sym, _∙_}
+use native.Mathlib.Omega.{arith}
+use borrow.Author.Needs.{needs}
 use borrow.Author.Tests.{not-true, not-false}
 use Rattle.bench.proofs.Calls.{drain-refused, drain-taken}
-use borrow.Author.Needs.{needs}
+use Rattle.bench.proofs.Working.{for-drain, drained-is}
 use Rattle.bench.proofs.drain.Statement.{statement}
 use Rattle.bench.proofs.drain.Tie as tie
 
@@ -11,11 +14,25 @@ is-ready-requires c κs = search needs
 returns : tie.Need-returns
 returns c = drain-refused (c .before .before .args .b) (c .before .before .args .budget) (sym (c .before .is-ready .ensures .0) ∙ not-true _ (c .if1 .taken))
 
-draining-requires : tie.Need-draining-requires
-draining-requires c κs = c .before .is-ready .ensures .1 (not-false _ (c .if1 .left))
+slice-aggregate-turns : tie.Need-slice-aggregate-turns
+slice-aggregate-turns c = search needs
+
+slice-aggregate-turns-2 : tie.Need-slice-aggregate-turns-2
+slice-aggregate-turns-2 c = search needs
+
+turns-requires : tie.Need-turns-requires
+turns-requires c κs = (c .before .before .before .is-ready .ensures .1 (not-false _ (c .before .before .if1 .left)), for-drain _ _ _ (omega arith))
 
 returns-2 : tie.Need-returns-2
-returns-2 c = c .draining .ensures ∙ drain-taken (c .before .before .before .args .b) (c .before .before .before .args .budget) (sym (c .before .before .is-ready .ensures .0) ∙ not-false _ (c .before .if1 .left))
+returns-2 c = drained-is _ (c .before .before .before .before .before .before .before .args .budget) (c .before .before .before .before .before .before .before .args .b) _ _ (c .before .before .turns .result) (c .before .before .turns .ensures) ∙ drain-taken (c .before .before .before .before .before .before .before .args .b) (c .before .before .before .before .before .before .before .args .budget) (sym (c .before .before .before .before .before .before .is-ready .ensures .0) ∙ not-false _ (c .before .before .before .before .before .if1 .left))
 
 pub drain-spec : {M : Type 1} → statement M
-drain-spec = tie.close (tie.spec is-ready-requires returns draining-requires returns-2)
+drain-spec =
+    tie.close
+    (tie.spec
+    is-ready-requires
+    returns
+    slice-aggregate-turns
+    slice-aggregate-turns-2
+    turns-requires
+    returns-2)

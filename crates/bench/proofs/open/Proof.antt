@@ -1,8 +1,9 @@
+-- `bench::open` meets its contract: the answer first, then the board of zeros or the empty board. Assumes nothing.
+use mathlib.Core.Path.{sym, ap, _∙_}
+use borrow.Author.Needs.{needs}
 use Rattle.rules.specs.Answers.{number}
 use Rattle.bench.proofs.Homes.{counts-fit}
-use mathlib.Core.Path.{_≡_, refl, sym, ap, _∙_}
 use Rattle.bench.proofs.Calls.{opening-refused, opening-taken}
-use borrow.Author.Needs.{needs}
 use Rattle.bench.proofs.open.Statement.{statement}
 use Rattle.bench.proofs.open.Tie as tie
 

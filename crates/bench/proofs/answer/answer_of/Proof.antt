@@ -1,8 +1,8 @@
-use Prim.Native.Nat.{ℕ, suc, _≤_}
+-- `bench::answer::answer_of` meets its contract: by the cases of the number; past the table none is left but the last. Assumes nothing.
+use mathlib.Core.Path.{sym}
+use native.Mathlib.Omega.{arith}
 use Rattle.bench.specs.Packed.{answerOf}
 use Rattle.bench.proofs.Packing.{above, answer-past}
-use mathlib.Core.Path.{_≡_, refl, sym, ap, _∙_}
-use native.Mathlib.Omega.{arith}
 use Rattle.bench.proofs.answer.answer_of.Statement.{statement}
 use Rattle.bench.proofs.answer.answer_of.Tie as tie
 

@@ -1,3 +1,4 @@
+-- `bench::answer::number` meets its contract: by the cases of the answer. Assumes nothing.
 use borrow.Author.Needs.{needs}
 use Rattle.bench.proofs.answer.number.Statement.{statement}
 use Rattle.bench.proofs.answer.number.Tie as tie

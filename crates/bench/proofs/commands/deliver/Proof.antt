@@ -1,8 +1,9 @@
-use mathlib.Core.Path.{_≡_, refl, sym, ap, _∙_}
+-- `bench::commands::deliver` meets its contract: the test refuses what no packed field holds; the rest is packed. Assumes nothing.
+use mathlib.Core.Path.{ap, _∙_}
 use native.Mathlib.Omega.{arith}
-use Rattle.bench.proofs.Packing.{no-message, packed-deliver}
-use Rattle.rules.specs.Commands.{turn}
 use borrow.Author.Needs.{needs}
+use Rattle.rules.specs.Commands.{turn}
+use Rattle.bench.proofs.Packing.{no-message, packed-deliver}
 use Rattle.bench.proofs.commands.deliver.Statement.{statement}
 use Rattle.bench.proofs.commands.deliver.Tie as tie
 

@@ -1,6 +1,10 @@
-use mathlib.Core.Path.{_≡_, refl, sym, ap, _∙_}
-use Rattle.bench.proofs.Packing.{once-turns}
+-- `bench::commands::once` meets its contract: one turn of the engine, and its answer read back from its number. Assumes nothing.
+use mathlib.Core.Path.{refl, ap}
+use native.Mathlib.Omega.{arith}
 use borrow.Author.Needs.{needs}
+use Rattle.rules.specs.declared.Ran.{Ran}
+use Rattle.bench.proofs.Working.{for-sheet}
+use Rattle.bench.proofs.Packing.{once-turns}
 use Rattle.bench.proofs.commands.once.Statement.{statement}
 use Rattle.bench.proofs.commands.once.Tie as tie
 
@@ -11,7 +15,7 @@ slice-aggregate-turns-2 : tie.Need-slice-aggregate-turns-2
 slice-aggregate-turns-2 c = search needs
 
 turns-requires : tie.Need-turns-requires
-turns-requires c κs = search needs
+turns-requires c κs = (c .before .before .pre, for-sheet _ 1 _ refl (omega arith))
 
 array-read-answer-of : tie.Need-array-read-answer-of
 array-read-answer-of c = search needs
@@ -20,7 +24,7 @@ answer-of-requires : tie.Need-answer-of-requires
 answer-of-requires c κs = search needs
 
 returns : tie.Need-returns
-returns c = once-turns (c .before .before .before .before .before .args .b) _ (c .before .before .turns .result) _ (c .before .before .turns .ensures .0) (c .before .before .turns .ensures .1) (c .answer-of .result) (c .answer-of .ensures)
+returns c = let w = c .before .before .before .turns .ensures .sheet refl in once-turns (c .before .before .before .before .before .before .args .b) _ (c .before .before .before .turns .result .board) _ (ap (λ (r : Ran). r .board) (w .0)) (w .1) (c .answer-of .result) (c .answer-of .ensures)
 
 pub once-spec : {M : Type 1} → statement M
 once-spec =

@@ -1,8 +1,9 @@
-use mathlib.Core.Path.{_≡_, refl, sym, ap, _∙_}
+-- `bench::commands::request` meets its contract: the first tests refuse what no packed field holds; the rest is packed. Assumes nothing.
+use mathlib.Core.Path.{ap, _∙_}
 use native.Mathlib.Omega.{arith}
-use Rattle.bench.proofs.Packing.{no-process, no-object, no-mode, packed-request}
-use Rattle.rules.specs.Commands.{turn}
 use borrow.Author.Needs.{needs}
+use Rattle.rules.specs.Commands.{turn}
+use Rattle.bench.proofs.Packing.{no-process, no-object, no-mode, packed-request}
 use Rattle.bench.proofs.commands.request.Statement.{statement}
 use Rattle.bench.proofs.commands.request.Tie as tie
 

@@ -2,7 +2,7 @@
 -- rules give for the command; its files follow the arms of the loop. Assumes nothing.
 use Rattle.bench.proofs.engine.turns.Statement.{statement}
 use Rattle.bench.proofs.engine.turns.Tie as tie
-use Rattle.bench.proofs.engine.turns.Proof.Loop.{Inv-loop, μ-loop, no-entries-requires, load-requires, loop-holds, mul-hi, shared-slice-read-hi, mul-lo, add-lo, shared-slice-read-lo, same-length, returns}
+use Rattle.bench.proofs.engine.turns.Proof.Loop.{Inv-loop, μ-loop, no-entries-requires, load-requires, loop-holds, is-over-requires, first-byte-requires, second-byte-requires, answer-place-requires, same-length, returns, same-length-2, returns-2}
 use Rattle.bench.proofs.engine.turns.Proof.Asks.{object-number-requires, wide-requires, mul-book, element-copy-out-book, home-answer-requires, slice-write-room, add-i, loop-less, loop-again, top-load-requires, slice-write-room-2, add-i-2, loop-less-2, loop-again-2, slice-write-room-3, add-i-3, book-after-requires, mul-process, element-set-from-process, lowest-free-requires, kind-sent-requires, kind-load-requires, add-weight, mul-flight, element-set-from-flight, mul-none, element-set-from-none, cast-with, with-requires, loop-less-3, loop-again-3}
 use Rattle.bench.proofs.engine.turns.Proof.Takes.{has-requires, slice-write-room-4, add-i-4, loop-less-4, loop-again-4, slice-write-room-5, add-i-5, wide-requires-2, mul-arrived, element-copy-out-arrived, mul-list, element-copy-out-list, kind-load-requires-2, sub-weight, mul-free, element-set-from-free, mul-none-2, element-set-from-none-2, without-requires, lowest-free-requires-2, enum-told, loop-less-5, loop-again-5, enum-known-sort-2, wide-requires-6, mul-granted, element-copy-out-granted, granted-requires, mul-process-2, element-set-from-process-2, loop-less-8, loop-again-8}
 use Rattle.bench.proofs.engine.turns.Proof.Requests.{enum-known-sort, wide-requires-3, mul-old, element-copy-out-old, request-arrives-requires, mul-book-2, element-set-from-book, wide-requires-4, add-weight-2, wide-requires-5, sub-weight-2, kind-load-requires-3, loop-less-6, loop-again-6, add-weight-3, mul-flight-2, element-set-from-flight-2, mul-entries, element-set-from-entries, cast-with-2, with-requires-2, loop-less-7, loop-again-7}
@@ -24,11 +24,10 @@ turns-spec =
     no-entries-requires
     load-requires
     loop-holds
-    mul-hi
-    shared-slice-read-hi
-    mul-lo
-    add-lo
-    shared-slice-read-lo
+    is-over-requires
+    first-byte-requires
+    second-byte-requires
+    answer-place-requires
     object-number-requires
     wide-requires
     mul-book
@@ -187,4 +186,6 @@ turns-spec =
     loop-less-16
     loop-again-16
     same-length
-    returns)
+    returns
+    same-length-2
+    returns-2)

@@ -1,7 +1,7 @@
+-- `bench::grants::front_goes` meets its contract. Assumes nothing.
 use Prim.Native.Nat.{_<_}
 use native.Mathlib.Omega.{arith}
-use mathlib.Core.Path.{_≡_, refl, sym, ap, _∙_}
-use borrow.Author.Tests.{eq-eqb, ne-eqb, lt-ltb, le-ltb, ltb-true}
+use borrow.Author.Tests.{lt-ltb}
 use borrow.Author.Needs.{needs}
 use Rattle.bench.proofs.grants.front_goes.Statement.{statement}
 use Rattle.bench.proofs.grants.front_goes.Tie as tie

@@ -1,4 +1,4 @@
-use mathlib.Core.Path.{_≡_, refl, sym, ap, _∙_}
+-- `bench::grants::front_grant` meets its contract. Assumes nothing.
 use borrow.Author.Needs.{needs}
 use Rattle.bench.proofs.grants.front_grant.Statement.{statement}
 use Rattle.bench.proofs.grants.front_grant.Tie as tie

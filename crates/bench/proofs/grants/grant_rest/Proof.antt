@@ -1,11 +1,10 @@
 -- `bench::grants::grant_rest` meets its contract: each turn of its loop lets in the front, and what is left of the grants stays the same.
 -- Assumes nothing.
 use mathlib.Core.Path.{_≡_, refl, sym, ap, _∙_}
-use mathlib.Core.Bool.{true, false}
-use Prim.Native.Nat.{ℕ, _+_, _-_, _≤_, _<_}
+use mathlib.Core.Bool.{true}
+use Prim.Native.Nat.{ℕ, _<_}
 use native.Mathlib.Omega.{arith}
 use borrow.Author.Needs.{needs}
-use lib.ListN.{getD}
 use Rattle.rules.specs.declared.Board.{Board}
 use Rattle.rules.specs.declared.Object.{Object}
 use Rattle.rules.specs.declared.Message.{Message}
@@ -14,7 +13,7 @@ use Rattle.rules.specs.declared.Kind.the-variants.{Grant}
 use Rattle.rules.specs.declared.Entries.{Entries}
 use Rattle.rules.specs.Book.{whoAt, modeAt, frontGranted}
 use Rattle.rules.specs.Lists.{plain}
-use Rattle.rules.specs.Board.{noObject, objectAt, putObject, isMessage, send}
+use Rattle.rules.specs.Board.{noObject, putObject, isMessage, send}
 use Rattle.rules.specs.Ranges.{LineRanged}
 use Rattle.rules.proofs.Load.{send-full}
 use Rattle.bench.specs.Grants.{frontGoes}

@@ -1,7 +1,6 @@
 -- `bench::guard::is_ready` meets its contract: arrays are as long as their types say, so a board in shape is ready for the engine.
 -- Assumes nothing.
-use mathlib.Core.Path.{_≡_, refl, sym, ap, _∙_}
-use mathlib.Core.Bool.{true}
+use mathlib.Core.Path.{_≡_, refl, sym, _∙_}
 use mathlib.Core.List.{List, [], _∷_, map}
 use Prim.Native.Nat.{ℕ, zero, suc}
 use borrow.Author.Needs.{needs}
@@ -10,19 +9,13 @@ use mir.Val.{Val}
 use denote.Shadow.{shadow}
 use denote.Array.{each}
 use denote.Struct.Field.{Field}
+use Rattle.rules.specs.Lists.{noEntries, noRing}
+use Rattle.rules.specs.Board.{noObject}
 use Rattle.rules.proofs.Object as ObjectField
 use Rattle.rules.proofs.Entries as EntriesField
 use Rattle.rules.proofs.Ring as RingField
-use Rattle.rules.specs.declared.Board.{Board}
-use Rattle.rules.specs.declared.Object.{Object}
-use Rattle.rules.specs.declared.Entries.{Entries}
-use Rattle.rules.specs.declared.Ring.{Ring}
-use Rattle.rules.specs.Lists.{noEntries, noRing}
-use Rattle.rules.specs.Board.{noObject}
-use Rattle.rules.specs.Shape.{inShape}
 use Rattle.laws.specs.Shape.{Sized}
 use Rattle.laws.proofs.Shape.{shape-said}
-use Rattle.bench.specs.Ready.{Ready}
 use Rattle.bench.proofs.guard.is_ready.Statement.{statement}
 use Rattle.bench.proofs.guard.is_ready.Tie as tie
 

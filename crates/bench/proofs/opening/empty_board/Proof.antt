@@ -1,4 +1,4 @@
-use mathlib.Core.Path.{_≡_, refl, sym, ap, _∙_}
+-- `bench::opening::empty_board` meets its contract. Assumes nothing.
 use borrow.Author.Needs.{needs}
 use Rattle.bench.proofs.opening.empty_board.Statement.{statement}
 use Rattle.bench.proofs.opening.empty_board.Tie as tie

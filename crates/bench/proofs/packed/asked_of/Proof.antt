@@ -1,7 +1,8 @@
+-- `bench::packed::asked_of` meets its contract: a ranged list asks a process below 16. Assumes nothing.
+use mathlib.Core.Path.{ap}
 use Prim.Native.Nat.{ℕ}
-use lib.ListN.{getD}
-use mathlib.Core.Path.{_≡_, refl, sym, ap, _∙_}
 use borrow.Author.Needs.{needs}
+use lib.ListN.{getD}
 use Rattle.bench.proofs.packed.asked_of.Statement.{statement}
 use Rattle.bench.proofs.packed.asked_of.Tie as tie
 

@@ -1,7 +1,7 @@
-use mathlib.Core.Path.{_≡_, refl, sym, ap, _∙_}
-use borrow.Author.Tests.{eq-eqb, ne-eqb, lt-ltb, le-ltb, ltb-true}
-use Rattle.bench.specs.Packed.{bookAfter}
+-- `bench::packed::book_after` meets its contract: by the kind. Assumes nothing.
+use borrow.Author.Tests.{eq-eqb, ne-eqb}
 use borrow.Author.Needs.{needs}
+use Rattle.bench.specs.Packed.{bookAfter}
 use Rattle.bench.proofs.packed.book_after.Statement.{statement}
 use Rattle.bench.proofs.packed.book_after.Tie as tie
 

@@ -1,8 +1,9 @@
-use mathlib.Core.Path.{_≡_, refl, sym, ap, _∙_}
-use borrow.Author.Tests.{eq-eqb, ne-eqb, lt-ltb, le-ltb, ltb-true}
-use Rattle.bench.specs.Packed.{homeAnswer}
-use Rattle.rules.specs.Answers.{number}
+-- `bench::packed::home_answer` meets its contract: by the kind, from the answers of the two handlers. Assumes nothing.
+use mathlib.Core.Path.{ap, _∙_}
+use borrow.Author.Tests.{eq-eqb, ne-eqb}
 use borrow.Author.Needs.{needs}
+use Rattle.rules.specs.Answers.{number}
+use Rattle.bench.specs.Packed.{homeAnswer}
 use Rattle.bench.proofs.packed.home_answer.Statement.{statement}
 use Rattle.bench.proofs.packed.home_answer.Tie as tie
 

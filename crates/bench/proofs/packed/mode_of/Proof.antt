@@ -1,4 +1,5 @@
-use borrow.Author.Tests.{eq-eqb, ne-eqb, lt-ltb, le-ltb, ltb-true}
+-- `bench::packed::mode_of` meets its contract. Assumes nothing.
+use borrow.Author.Tests.{eq-eqb, ne-eqb}
 use Rattle.bench.proofs.packed.mode_of.Statement.{statement}
 use Rattle.bench.proofs.packed.mode_of.Tie as tie
 

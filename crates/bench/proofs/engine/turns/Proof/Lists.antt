@@ -1,23 +1,20 @@
 -- A list arrives: at the home of its next entry, or at an object. It goes on, it ends, or a ring is recorded.
 use mathlib.Core.Path.{_≡_, refl, sym, ap, _∙_}
-use mathlib.Core.List.{List, []}
-use Prim.Native.Nat.{ℕ, _+_, _-_, _≤_, _<_}
+use mathlib.Core.List.{[]}
+use Prim.Native.Nat.{ℕ, _<_}
 use native.Mathlib.Omega.{arith}
 use borrow.Author.Needs.{needs}
 use lib.ListN.{getD}
 use Rattle.rules.specs.declared.Kind.the-variants.{ListToHome}
-use Rattle.rules.specs.declared.Board.{Board}
 use Rattle.rules.specs.declared.Object.{Object}
-use Rattle.rules.specs.declared.Process.{Process}
-use Rattle.rules.specs.declared.Ring.{Ring}
 use Rattle.rules.specs.Lists.{noRing}
-use Rattle.rules.specs.Board.{noObject, noProcess, objectAt, processAt, ringAt, putRing, send, load}
+use Rattle.rules.specs.Board.{noObject, noProcess, objectAt, putRing, send}
 use Rattle.rules.specs.Commands.{delivered}
 use Rattle.rules.specs.Ranges.{LineRanged}
 use Rattle.rules.proofs.Load.{load-ring}
-use Rattle.bench.proofs.Sends.{Made, read-at, sent-none, sent-here, list-at-home, no-ring, ring-found}
+use Rattle.bench.proofs.Sends.{read-at, sent-none, sent-here, list-at-home, no-ring, ring-found}
 use Rattle.bench.proofs.engine.turns.Tie as tie
-use Rattle.bench.proofs.engine.turns.Proof.Loop.{Inv-loop, μ-loop, Turn, ready, less, again}
+use Rattle.bench.proofs.engine.turns.Proof.Loop.{Inv-loop, μ-loop, ready, less, again}
 use Rattle.bench.proofs.engine.turns.Proof.Takes.{Took, turnTook, before, numOf, toOf, listOf, freedNow, weightLeft, kind-is, kind-ranged, list-is, list-ranged, freed-is, freed-matched, freed-flights, weight-left, left-most, to-small, taking}
 
 -- ---- at the home of its next entry
@@ -60,7 +57,7 @@ pub loop-again-12 : tie.Need-loop-again-12 Inv-loop μ-loop
 loop-again-12 c =
     let t = c .before .before .before .before .before .before .before .before in
     again (turnTook t) 0 (delivered (before t) (numOf t)) (taking t) (freedNow t) (weightLeft t)
-    (sent-none (freedNow t) (weightLeft t) (weight-left t) (c .before .before .list-at-home .result) (c .before .kind-load4 .result) (c .before .kind-load4 .ensures .0) (delivered (before t) (numOf t)) (home-arrives (c .before .before)) (c .if8 .taken))
+    (sent-none (freedNow t) (weightLeft t) (weight-left t) (c .before .before .list-at-home .result) (c .before .kind-load4 .result) (c .before .kind-load4 .ensures .0) (delivered (before t) (numOf t)) (home-arrives (c .before .before)) (c .if9 .taken))
 
 pub add-weight-4 : tie.Need-add-weight-4 Inv-loop μ-loop
 add-weight-4 c = omega (arith, left-most (c .before .before .before .before .before .before .before .before), c .before .kind-load4 .ensures .1)
@@ -91,7 +88,7 @@ loop-again-13 c =
     let t = c .before .before .before .before .before .before .before .before .before .before in
     again (turnTook t) 0 (delivered (before t) (numOf t)) (taking t) _ _
     (sent-here (freedNow t) (weightLeft t) (weight-left t) (c .before .before .before .before .list-at-home .result) (c .before .before .before .kind-load4 .result) (c .before .before .before .kind-load4 .ensures .0) (delivered (before t) (numOf t)) (home-arrives (c .before .before .before .before))
-    (freed-flights t) (freed-matched t) (toOf t) (c .with4 .result) (t .lowest-free2 .ensures .0) (c .with4 .ensures) (to-small t) (c .before .before .if8 .left))
+    (freed-flights t) (freed-matched t) (toOf t) (c .with4 .result) (t .lowest-free2 .ensures .0) (c .with4 .ensures) (to-small t) (c .before .before .if9 .left))
 
 -- ---- at an object
 pub enum-known-sort-4 : tie.Need-enum-known-sort-4 Inv-loop μ-loop
@@ -169,7 +166,7 @@ loop-again-14 c =
     again (turnTook t) 0 (delivered (before t) (numOf t)) (taking t) (putRing (freedNow t) (c .before .before .wide10 .result) (c .keeping .result)) (weightLeft t)
     (record {
       board = ring-found (before t) (numOf t) (freedNow t) (freed-is t) (listOf t) (list-is t) (h .before .before .before .sort4 .given .0 .0) (kind-is t _ (h .before .before .before .sort4 .given .1)) (oldOf h) (c .before .before .before .before .before .before .before .list-at-object .result) (old-is h) (c .before .before .before .before .before .before .before .list-at-object .ensures)
-          (c .before .before .wide10 .result) (c .keeping .result) (getD (before t .rings) (c .before .before .wide10 .result) (record { processes = []; count = 0 })) (c .before .before .before .before .if9 .taken) (c .before .before .wide10 .ensures .0)
+          (c .before .before .wide10 .result) (c .keeping .result) (getD (before t .rings) (c .before .before .wide10 .result) (record { processes = []; count = 0 })) (c .before .before .before .before .if10 .taken) (c .before .before .wide10 .ensures .0)
           (read-at (before t .rings) (c .before .before .wide10 .result) (c .before .before .wide10 .result) _ noRing refl (omega (arith, ready (turnTook t) .ranged .rings, starter-small d))) (c .keeping .ensures);
       weight = weight-left t ∙ sym (load-ring (freedNow t) (c .before .before .wide10 .result) (c .keeping .result));
     })
@@ -197,7 +194,7 @@ pub loop-again-15 : tie.Need-loop-again-15 Inv-loop μ-loop
 loop-again-15 c =
     let t = c .before .before .before .before .before .before .before .before .before .before .before .before in
     again (turnTook t) 0 (delivered (before t) (numOf t)) (taking t) (freedNow t) (weightLeft t)
-    (sent-none (freedNow t) (weightLeft t) (weight-left t) (c .before .before .before .before .before .before .list-at-object .result .sent) (c .before .kind-load5 .result) (c .before .kind-load5 .ensures .0) (delivered (before t) (numOf t)) (object-arrives (c .before .before .before .before .before .before) (c .before .before .before .if9 .left)) (c .if10 .taken))
+    (sent-none (freedNow t) (weightLeft t) (weight-left t) (c .before .before .before .before .before .before .list-at-object .result .sent) (c .before .kind-load5 .result) (c .before .kind-load5 .ensures .0) (delivered (before t) (numOf t)) (object-arrives (c .before .before .before .before .before .before) (c .before .before .before .if10 .left)) (c .if11 .taken))
 
 pub add-weight-5 : tie.Need-add-weight-5 Inv-loop μ-loop
 add-weight-5 c = omega (arith, left-most (c .before .before .before .before .before .before .before .before .before .before .before .before), c .before .kind-load5 .ensures .1)
@@ -227,5 +224,5 @@ pub loop-again-16 : tie.Need-loop-again-16 Inv-loop μ-loop
 loop-again-16 c =
     let t = c .before .before .before .before .before .before .before .before .before .before .before .before .before .before in
     again (turnTook t) 0 (delivered (before t) (numOf t)) (taking t) _ _
-    (sent-here (freedNow t) (weightLeft t) (weight-left t) (c .before .before .before .before .before .before .before .before .list-at-object .result .sent) (c .before .before .before .kind-load5 .result) (c .before .before .before .kind-load5 .ensures .0) (delivered (before t) (numOf t)) (object-arrives (c .before .before .before .before .before .before .before .before) (c .before .before .before .before .before .if9 .left))
-    (freed-flights t) (freed-matched t) (toOf t) (c .with5 .result) (t .lowest-free2 .ensures .0) (c .with5 .ensures) (to-small t) (c .before .before .if10 .left))
+    (sent-here (freedNow t) (weightLeft t) (weight-left t) (c .before .before .before .before .before .before .before .before .list-at-object .result .sent) (c .before .before .before .kind-load5 .result) (c .before .before .before .kind-load5 .ensures .0) (delivered (before t) (numOf t)) (object-arrives (c .before .before .before .before .before .before .before .before) (c .before .before .before .before .before .if10 .left))
+    (freed-flights t) (freed-matched t) (toOf t) (c .with5 .result) (t .lowest-free2 .ensures .0) (c .with5 .ensures) (to-small t) (c .before .before .if11 .left))

@@ -1,80 +1,87 @@
 -- The engine's loop: its invariant, what is known at the start of a turn, and the end of a turn.
-use mathlib.Core.Path.{_≡_, refl, sym, ap, _∙_}
+use mathlib.Core.Bool.{Bool}
 use mathlib.Core.List.{List}
-use Prim.Native.Nat.{ℕ, _+_, _-_, _*_, _/_, _%_, _≤_, _<_}
+use Prim.Native.Nat.{ℕ, _+_, _-_, _≤_, _<_}
 use native.Mathlib.Omega.{arith}
 use borrow.Author.Needs.{needs}
-use lib.ListN.{length, set, getD}
+use lib.ListN.{length, set}
 use Rattle.rules.specs.declared.Board.{Board}
-use Rattle.rules.specs.Board.{load}
-use Rattle.rules.specs.Sheet.{boardAfter, roomAfter}
 use Rattle.rules.proofs.Sheet.{ofBytes}
 use Rattle.bench.specs.Ready.{Ready}
-use Rattle.bench.proofs.Ready.{sheet-ready, load-most}
+use Rattle.bench.proofs.Ready.{load-most}
 use Rattle.bench.proofs.Sends.{Made}
-use Rattle.bench.proofs.Turns.{Turns, Going, going-on}
+use Rattle.bench.proofs.Turns.{Turns}
+use Rattle.bench.proofs.Working.{Working, working-starts, bytes-there, place-there, working-on, all-done, none-left}
 use Rattle.bench.proofs.engine.turns.Tie as tie
 
 abbrev pub Inv-loop : tie.InvT-loop
-Inv-loop s room₀ b₀ n free none weight₀ i₀ room b weight i = Going b₀ s room₀ n i b room weight
+Inv-loop s lowest most room₀ b₀ free none weight₀ i₀ room b weight i = Working lowest b₀ s room₀ most i b room weight
 
 abbrev pub μ-loop : tie.MeasureT-loop
-μ-loop s room₀ b₀ n free none weight₀ i₀ room b weight i = n - i
+μ-loop s lowest most room₀ b₀ free none weight₀ i₀ room b weight i = most - i
 
--- ---- a turn, once the command's two bytes are read
+-- ---- a turn, once its command is known
 abbrev pub Turn : Type 0
-Turn = tie.After-shared-slice-known3 Inv-loop μ-loop
+Turn = tie.After-answer-place Inv-loop μ-loop
 
-abbrev pub startOf : Turn → Board
-startOf e = e .before .before .before .before .before .before .before .before .args .start
+abbrev lowestOf : Turn → Bool
+lowestOf e = e .before .before .before .before .before .before .before .before .before .before .before .args .lowest
 
-abbrev pub sheetOf : Turn → List ℕ
-sheetOf e = e .before .before .before .before .before .before .before .before .args .s .now
+abbrev startOf : Turn → Board
+startOf e = e .before .before .before .before .before .before .before .before .before .before .before .args .start
 
-abbrev pub roomOf : Turn → List ℕ
-roomOf e = e .before .before .before .before .before .before .before .before .args .room .now
+abbrev sheetOf : Turn → List ℕ
+sheetOf e = e .before .before .before .before .before .before .before .before .before .before .before .args .s .now
+
+abbrev mostOf : Turn → ℕ
+mostOf e = e .before .before .before .before .before .before .before .before .before .before .before .args .most
+
+abbrev roomOf : Turn → List ℕ
+roomOf e = e .before .before .before .before .before .before .before .before .before .before .before .args .room .now
 
 abbrev pub boardNow : Turn → Board
-boardNow e = e .before .before .before .loop .b
+boardNow e = e .before .before .before .before .before .before .loop .b
 
 abbrev pub weightNow : Turn → ℕ
-weightNow e = e .before .before .before .loop .weight
+weightNow e = e .before .before .before .before .before .before .loop .weight
 
-abbrev pub iNow : Turn → ℕ
-iNow e = e .before .before .before .loop .i
+abbrev iNow : Turn → ℕ
+iNow e = e .before .before .before .before .before .before .loop .i
 
 abbrev pub hiOf : Turn → ℕ
-hiOf e = getD (sheetOf e) (2 * iNow e) 0
+hiOf e = e .before .before .first-byte .result
 
 abbrev pub loOf : Turn → ℕ
-loOf e = getD (sheetOf e) (2 * iNow e + 1) 0
+loOf e = e .before .second-byte .result
 
-abbrev pub GoingOn : Turn → ℕ → Board → List ℕ → ℕ → Type 0
-GoingOn e i b r w = Going (startOf e) (sheetOf e) (roomOf e) (length (sheetOf e) / 2) i b r w
+abbrev WorkingOn : Turn → ℕ → Board → List ℕ → ℕ → Type 0
+WorkingOn e i b r w = Working (lowestOf e) (startOf e) (sheetOf e) (roomOf e) (mostOf e) i b r w
 
-pub going : (e : Turn) → GoingOn e (iNow e) (boardNow e) (e .before .before .before .loop .room) (weightNow e)
-going e = e .before .before .before .loop .inv
+pub going : (e : Turn) → WorkingOn e (iNow e) (boardNow e) (e .before .before .before .before .before .before .loop .room) (weightNow e)
+going e = e .before .before .before .before .before .before .loop .inv
 
 pub hi-small : (e : Turn) → hiOf e < 256
-hi-small e = let h = e .before .shared-slice-known2 .given (2 * iNow e) in omega (arith, h)
-
-pub lo-small : (e : Turn) → loOf e < 256
-lo-small e = let h = e .before .shared-slice-known2 .given (2 * iNow e + 1) in omega (arith, h)
+hi-small e = e .before .before .first-byte .ensures .1
 
 pub ready : (e : Turn) → Ready (boardNow e)
-ready e = rw (going e .board) (sheet-ready (startOf e) (sheetOf e) (iNow e) (e .before .before .before .before .before .before .before .before .pre .0))
+ready e = going e .ready
 
 pub weight-most : (e : Turn) → weightNow e ≤ 384
 weight-most e = omega (arith, going e .weight, load-most (boardNow e) (ready e .ranged))
 
+pub place-small : (e : Turn) → e .answer-place .result < length (e .before .before .before .before .before .before .loop .room)
+place-small e = place-there (lowestOf e) (startOf e) (sheetOf e) (roomOf e) (mostOf e) (iNow e) (boardNow e) (e .before .before .before .before .before .before .loop .room) (weightNow e) (going e) (e .before .before .before .before .before .loop-test .taken) (e .answer-place .result) (e .answer-place .ensures)
+
 -- ---- a turn's end
-pub less : (e : Turn) → length (sheetOf e) / 2 - (iNow e + 1) < length (sheetOf e) / 2 - iNow e
-less e = omega (arith, e .before .before .loop-test .taken)
+pub less : (e : Turn) → mostOf e - (iNow e + 1) < mostOf e - iNow e
+less e = omega (arith, e .before .before .before .before .before .loop-test .taken)
 
-pub again : (e : Turn) (a : ℕ) (y : Board) → Turns (boardNow e) (ofBytes (hiOf e) (loOf e)) a y → (x : Board) (w : ℕ) → Made x w y → GoingOn e (iNow e + 1) x (set (e .before .before .before .loop .room) (iNow e) a) w
-again e a y t x w m = going-on (startOf e) (sheetOf e) (roomOf e) (length (sheetOf e) / 2) (iNow e) (boardNow e) (e .before .before .before .loop .room) (weightNow e) (going e) (e .before .before .loop-test .taken) (hi-small e) (lo-small e) a y t x w m
+pub again : (e : Turn) (a : ℕ) (y : Board) → Turns (boardNow e) (ofBytes (hiOf e) (loOf e)) a y → (x : Board) (w : ℕ) → Made x w y → WorkingOn e (iNow e + 1) x (set (e .before .before .before .before .before .before .loop .room) (e .answer-place .result) a) w
+again e a y t x w m =
+    working-on (lowestOf e) (startOf e) (sheetOf e) (roomOf e) (mostOf e) (iNow e) (boardNow e) (e .before .before .before .before .before .before .loop .room) (weightNow e) (going e) (e .before .before .before .before .before .loop-test .taken) (e .before .before .before .before .is-over .result) (e .before .before .before .before .is-over .ensures) (e .before .before .before .if1 .left)
+    (hiOf e) (loOf e) (e .answer-place .result) a (e .before .before .first-byte .ensures .0) (e .before .before .first-byte .ensures .1) (e .before .second-byte .ensures .0) (e .before .second-byte .ensures .1) (e .answer-place .ensures) y t x w m
 
--- ---- the needs before the first turn, and of the two bytes
+-- ---- the needs before the first turn, and of a turn's command
 pub no-entries-requires : tie.Need-no-entries-requires Inv-loop μ-loop
 no-entries-requires c κs = search needs
 
@@ -82,27 +89,29 @@ pub load-requires : tie.Need-load-requires Inv-loop μ-loop
 load-requires c κs = search needs
 
 pub loop-holds : tie.Need-loop-holds Inv-loop μ-loop
-unfolding boardAfter roomAfter
-loop-holds c = record { within = omega arith; whole = refl; size = refl; fits = c .before .before .before .before .pre .1; board = refl; room = refl; weight = c .load .ensures .0 }
+loop-holds c = working-starts (c .before .before .before .before .args .lowest) (c .before .before .before .before .args .start) (c .before .before .before .before .args .s .now) (c .before .before .before .before .args .room .now) (c .before .before .before .before .args .most) (c .load .result) (c .before .before .before .before .pre .0) (c .before .before .before .before .pre .1) (c .load .ensures .0)
 
-pub mul-hi : tie.Need-mul-hi Inv-loop μ-loop
-mul-hi c = search needs
+pub is-over-requires : tie.Need-is-over-requires Inv-loop μ-loop
+is-over-requires c κs = search needs
 
-pub shared-slice-read-hi : tie.Need-shared-slice-read-hi Inv-loop μ-loop
-shared-slice-read-hi c = search needs
+pub first-byte-requires : tie.Need-first-byte-requires Inv-loop μ-loop
+first-byte-requires c κs = bytes-there (c .before .before .before .before .before .before .before .before .args .lowest) (c .before .before .before .before .before .before .before .before .args .start) (c .before .before .before .before .before .before .before .before .args .s .now) (c .before .before .before .before .before .before .before .before .args .room .now) (c .before .before .before .before .before .before .before .before .args .most) (c .before .before .before .loop .i) (c .before .before .before .loop .b) (c .before .before .before .loop .room) (c .before .before .before .loop .weight) (c .before .before .before .loop .inv) (c .before .before .loop-test .taken)
 
-pub mul-lo : tie.Need-mul-lo Inv-loop μ-loop
-mul-lo c = search needs
+pub second-byte-requires : tie.Need-second-byte-requires Inv-loop μ-loop
+second-byte-requires c κs = bytes-there (c .before .before .before .before .before .before .before .before .before .args .lowest) (c .before .before .before .before .before .before .before .before .before .args .start) (c .before .before .before .before .before .before .before .before .before .args .s .now) (c .before .before .before .before .before .before .before .before .before .args .room .now) (c .before .before .before .before .before .before .before .before .before .args .most) (c .before .before .before .before .loop .i) (c .before .before .before .before .loop .b) (c .before .before .before .before .loop .room) (c .before .before .before .before .loop .weight) (c .before .before .before .before .loop .inv) (c .before .before .before .loop-test .taken)
 
-pub add-lo : tie.Need-add-lo Inv-loop μ-loop
-add-lo c = search needs
-
-pub shared-slice-read-lo : tie.Need-shared-slice-read-lo Inv-loop μ-loop
-shared-slice-read-lo c = search needs
+pub answer-place-requires : tie.Need-answer-place-requires Inv-loop μ-loop
+answer-place-requires c κs = search needs
 
 -- ---- the needs after the last turn
 pub same-length : tie.Need-same-length Inv-loop μ-loop
 same-length c = search needs
 
 pub returns : tie.Need-returns Inv-loop μ-loop
-returns c = let v = c .before .loop in let e : v .i ≡ length (c .before .before .before .before .before .before .args .s .now) / 2 = omega (arith, v .inv .within, c .loop-test .left) in (rw e at (v .inv .board), rw e at (v .inv .room))
+returns c = let v = c .before .loop in all-done (c .before .before .before .before .before .before .args .lowest) (c .before .before .before .before .before .before .args .start) (c .before .before .before .before .before .before .args .s .now) (c .before .before .before .before .before .before .args .room .now) (c .before .before .before .before .before .before .args .most) (v .i) (v .b) (v .room) (v .weight) (v .inv) (omega (arith, v .inv .within, c .loop-test .left))
+
+pub same-length-2 : tie.Need-same-length-2 Inv-loop μ-loop
+same-length-2 c = search needs
+
+pub returns-2 : tie.Need-returns-2 Inv-loop μ-loop
+returns-2 c = let v = c .before .before .before .loop in none-left (c .before .before .before .before .before .before .before .before .args .lowest) (c .before .before .before .before .before .before .before .before .args .start) (c .before .before .before .before .before .before .before .before .args .s .now) (c .before .before .before .before .before .before .before .before .args .room .now) (c .before .before .before .before .before .before .before .before .args .most) (v .i) (v .b) (v .room) (v .weight) (v .inv) (c .before .is-over .result) (c .before .is-over .ensures) (c .if1 .taken)

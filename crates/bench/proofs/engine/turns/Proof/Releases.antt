@@ -1,23 +1,22 @@
 -- A release arrives at its object: the holder is struck, and the front of the line is let in while it conflicts with no holder.
 use mathlib.Core.Path.{_≡_, refl, sym, ap, _∙_}
-use mathlib.Core.Bool.{true, false}
-use mathlib.Core.List.{List, []}
-use Prim.Native.Nat.{ℕ, _+_, _-_, _≤_, _<_}
+use mathlib.Core.List.{[]}
+use Prim.Native.Nat.{_<_}
 use native.Mathlib.Omega.{arith}
 use borrow.Author.Needs.{needs}
 use borrow.Author.Tests.{not-true, not-false}
-use lib.ListN.{getD, length, length-set}
+use lib.ListN.{getD, set}
 use Rattle.rules.specs.declared.Board.{Board}
 use Rattle.rules.specs.declared.Object.{Object}
 use Rattle.rules.specs.Book.{struck}
-use Rattle.rules.specs.Board.{noObject, objectAt, putObject, load}
+use Rattle.rules.specs.Board.{with, noObject, objectAt, putObject}
 use Rattle.rules.specs.Commands.{delivered}
 use Rattle.rules.specs.Ranges.{LineRanged}
 use Rattle.bench.specs.Grants.{grantsLeft}
-use Rattle.bench.proofs.Sends.{Made, read-at, release-arrives}
-use Rattle.bench.proofs.Releases.{line-is, struck-line, granted-line, none-granted, one-granted, more-granted, rest-line}
+use Rattle.bench.proofs.Sends.{read-at, release-arrives}
+use Rattle.bench.proofs.Releases.{line-is, struck-line, granted-line, none-granted, LetIn, first-granted}
 use Rattle.bench.proofs.engine.turns.Tie as tie
-use Rattle.bench.proofs.engine.turns.Proof.Loop.{Inv-loop, μ-loop, Turn, ready, less, again}
+use Rattle.bench.proofs.engine.turns.Proof.Loop.{Inv-loop, μ-loop, ready, less, again}
 use Rattle.bench.proofs.engine.turns.Proof.Takes.{Took, turnTook, before, numOf, toOf, noneOf, freedNow, weightLeft, kind-is, kind-ranged, freed-is, freed-matched, freed-flights, weight-left, to-small, taking}
 
 pub enum-known-sort-3 : tie.Need-enum-known-sort-3 Inv-loop μ-loop
@@ -93,7 +92,7 @@ loop-again-9 c =
     let d = c .before .before in
     let t = c .before .before .before .before .before .before .before .before in
     again (turnTook t) 0 (delivered (before t) (numOf t)) (taking t) _ (weightLeft t)
-    (none-granted (freedNow t) (weightLeft t) (weight-left t) (d .before .before .wide7 .result) (index-small d) (ready (turnTook t) .ranged .objects) (d .strike .result) (same-count d) (delivered (before t) (numOf t)) (arrives d) (sym (c .before .front-goes .ensures) ∙ not-true _ (c .if6 .taken)))
+    (none-granted (freedNow t) (weightLeft t) (weight-left t) (d .before .before .wide7 .result) (index-small d) (ready (turnTook t) .ranged .objects) (d .strike .result) (same-count d) (delivered (before t) (numOf t)) (arrives d) (sym (c .before .front-goes .ensures) ∙ not-true _ (c .if7 .taken)))
 
 -- ---- the front is let in
 pub front-granted-requires : tie.Need-front-granted-requires Inv-loop μ-loop
@@ -133,6 +132,23 @@ First = tie.After-with3 Inv-loop μ-loop
 next-ranged : (g : First) → LineRanged (g .before .before .front-granted .result)
 next-ranged g = line-is (g .before .before .front-granted .result) _ (g .before .before .front-granted .ensures) (granted-line (g .before .before .before .before .before .strike .result) (struck-ranged (g .before .before .before .before .before)))
 
+abbrev tookFirst : First → Took
+tookFirst g = g .before .before .before .before .before .before .before .before .before .before .before
+
+abbrev granted : First → Board
+granted g =
+    let t = g .before .before .before .before .before .before .before .before .before .before .before in
+    let y = freedNow t in
+    with y (y .processes) (set (y .objects) (g .before .before .before .before .before .before .before .wide7 .result) (g .before .before .front-granted .result)) (g .with3 .result) (set (y .flights) (toOf t) (record { kind = g .before .front-grant .result })) (set (y .lists) (toOf t) (noneOf t)) (y .rings)
+
+first : (g : First) → LetIn (granted g) (weightLeft (tookFirst g)) (g .before .before .before .before .before .before .before .before .before .sort3 .given .0 .1 .0) (g .before .before .front-granted .result) (delivered (before (tookFirst g)) (numOf (tookFirst g)))
+first g =
+    let d = g .before .before .before .before .before in
+    let t = g .before .before .before .before .before .before .before .before .before .before .before in
+    first-granted (freedNow t) (weightLeft t) (weight-left t) (d .before .before .wide7 .result) (index-small d) (ready (turnTook t) .ranged .objects) (d .strike .result) (same-count d) (delivered (before t) (numOf t)) (arrives d)
+    (sym (g .before .before .before .before .front-goes .ensures) ∙ not-false _ (g .before .before .before .if7 .left)) (d .before .before .before .before .sort3 .given .0 .1 .0) (d .before .before .wide7 .ensures .0) (g .before .before .front-granted .result) (g .before .before .front-granted .ensures) (g .before .front-grant .result) (g .before .front-grant .ensures) (noneOf t) (t .before .before .before .before .before .before .before .before .before .before .before .before .before .before .before .before .before .no-entries .ensures)
+    (freed-flights t) (freed-matched t) (toOf t) (g .with3 .result) (t .lowest-free2 .ensures .0) (g .with3 .ensures) (to-small t)
+
 pub front-goes-requires-2 : tie.Need-front-goes-requires-2 Inv-loop μ-loop
 front-goes-requires-2 c κs = next-ranged (c)
 
@@ -142,24 +158,15 @@ loop-less-10 c = less (c .before .before .before .before .before .before .before
 pub loop-again-10 : tie.Need-loop-again-10 Inv-loop μ-loop
 loop-again-10 c =
     let g = c .before .before in
-    let d = c .before .before .before .before .before .before .before in
     let t = c .before .before .before .before .before .before .before .before .before .before .before .before .before in
     again (turnTook t) 0 (delivered (before t) (numOf t)) (taking t) _ (weightLeft t)
-    (one-granted (freedNow t) (weightLeft t) (weight-left t) (d .before .before .wide7 .result) (index-small d) (ready (turnTook t) .ranged .objects) (d .strike .result) (same-count d) (delivered (before t) (numOf t)) (arrives d)
-    (sym (g .before .before .before .before .front-goes .ensures) ∙ not-false _ (g .before .before .before .if6 .left)) (d .before .before .before .before .sort3 .given .0 .1 .0) (d .before .before .wide7 .ensures .0) (g .before .before .front-granted .result) (g .before .before .front-granted .ensures) (g .before .front-grant .result) (g .before .front-grant .ensures) (noneOf t) (t .before .before .before .before .before .before .before .before .before .before .before .before .before .before .no-entries .ensures)
-    (freed-flights t) (freed-matched t) (toOf t) (g .with3 .result) (t .lowest-free2 .ensures .0) (g .with3 .ensures) (to-small t)
-    (sym (c .before .front-goes2 .ensures) ∙ not-true _ (c .if7 .taken)))
+    (first g .ends (sym (c .before .front-goes2 .ensures) ∙ not-true _ (c .if8 .taken)))
 
 -- ---- and the next after it, on the whole board
 pub grant-rest-requires : tie.Need-grant-rest-requires Inv-loop μ-loop
 grant-rest-requires c κs =
     let g = c .before .before in
-    let d = c .before .before .before .before .before .before .before in
-    let t = c .before .before .before .before .before .before .before .before .before .before .before .before .before in
-    rest-line (freedNow t) (weightLeft t) (weight-left t) (d .before .before .wide7 .result) (index-small d) (ready (turnTook t) .ranged .objects) (d .strike .result) (same-count d) (delivered (before t) (numOf t)) (arrives d)
-    (sym (g .before .before .before .before .front-goes .ensures) ∙ not-false _ (g .before .before .before .if6 .left)) (d .before .before .before .before .sort3 .given .0 .1 .0) (d .before .before .wide7 .ensures .0) (g .before .before .front-granted .result) (g .before .before .front-granted .ensures) (g .before .front-grant .result) (g .before .front-grant .ensures) (noneOf t) (t .before .before .before .before .before .before .before .before .before .before .before .before .before .before .no-entries .ensures)
-    (freed-flights t) (freed-matched t) (toOf t) (g .with3 .result) (t .lowest-free2 .ensures .0) (g .with3 .ensures) (to-small t)
-    (next-ranged g)
+    first g .line (next-ranged g)
 
 pub load-requires-2 : tie.Need-load-requires-2 Inv-loop μ-loop
 load-requires-2 c κs = search needs
@@ -170,10 +177,6 @@ loop-less-11 c = less (c .before .before .before .before .before .before .before
 pub loop-again-11 : tie.Need-loop-again-11 Inv-loop μ-loop
 loop-again-11 c =
     let g = c .before .before .before .before in
-    let d = c .before .before .before .before .before .before .before .before .before in
     let t = c .before .before .before .before .before .before .before .before .before .before .before .before .before .before .before in
     again (turnTook t) 0 (delivered (before t) (numOf t)) (taking t) (c .before .grant-rest .result) (c .load2 .result)
-    (more-granted (freedNow t) (weightLeft t) (weight-left t) (d .before .before .wide7 .result) (index-small d) (ready (turnTook t) .ranged .objects) (d .strike .result) (same-count d) (delivered (before t) (numOf t)) (arrives d)
-    (sym (g .before .before .before .before .front-goes .ensures) ∙ not-false _ (g .before .before .before .if6 .left)) (d .before .before .before .before .sort3 .given .0 .1 .0) (d .before .before .wide7 .ensures .0) (g .before .before .front-granted .result) (g .before .before .front-granted .ensures) (g .before .front-grant .result) (g .before .front-grant .ensures) (noneOf t) (t .before .before .before .before .before .before .before .before .before .before .before .before .before .before .no-entries .ensures)
-    (freed-flights t) (freed-matched t) (toOf t) (g .with3 .result) (t .lowest-free2 .ensures .0) (g .with3 .ensures) (to-small t)
-    (c .before .grant-rest .result) (c .load2 .result) (c .before .grant-rest .ensures) (c .load2 .ensures .0))
+    (first g .goes (c .before .grant-rest .result) (c .load2 .result) (c .before .grant-rest .ensures) (c .load2 .ensures .0))

@@ -1,7 +1,7 @@
 -- A request arrives at its object: the book is written, and a grant or a list may be sent.
-use mathlib.Core.Path.{_≡_, refl, sym, ap, _∙_}
-use mathlib.Core.List.{List, []}
-use Prim.Native.Nat.{ℕ, _+_, _-_, _≤_, _<_}
+use mathlib.Core.Path.{_≡_, refl, ap, _∙_}
+use mathlib.Core.List.{[]}
+use Prim.Native.Nat.{ℕ, _+_, _-_, _<_}
 use native.Mathlib.Omega.{arith}
 use borrow.Author.Needs.{needs}
 use lib.ListN.{getD}
@@ -10,9 +10,9 @@ use Rattle.rules.specs.declared.Object.{Object}
 use Rattle.rules.specs.Board.{noObject, objectAt, putObject, send, load}
 use Rattle.rules.specs.Commands.{delivered}
 use Rattle.rules.specs.Ranges.{LineRanged}
-use Rattle.bench.proofs.Sends.{Made, read-at, sent-none, sent-here, object-fits, object-weight, request-arrives}
+use Rattle.bench.proofs.Sends.{read-at, sent-none, sent-here, object-fits, object-weight, request-arrives}
 use Rattle.bench.proofs.engine.turns.Tie as tie
-use Rattle.bench.proofs.engine.turns.Proof.Loop.{Inv-loop, μ-loop, Turn, ready, less, again}
+use Rattle.bench.proofs.engine.turns.Proof.Loop.{Inv-loop, μ-loop, ready, less, again}
 use Rattle.bench.proofs.engine.turns.Proof.Takes.{Took, turnTook, before, numOf, toOf, freedNow, weightLeft, kind-is, kind-ranged, freed-is, freed-matched, freed-flights, weight-left, left-most, to-small, taking}
 
 pub enum-known-sort : tie.Need-enum-known-sort Inv-loop μ-loop
@@ -118,7 +118,7 @@ loop-again-6 c =
     let d = c .before .before .before in
     let t = c .before .before .before .before .before .before .before .before .before .before .before .before in
     again (turnTook t) 0 (delivered (before t) (numOf t)) (taking t) (wrote d) (weightWrote d)
-    (sent-none (wrote d) (weightWrote d) (weight-wrote d) (d .before .before .before .request-arrives .result .sent) (c .before .kind-load3 .result) (c .before .kind-load3 .ensures .0) (delivered (before t) (numOf t)) (arrives d) (c .if5 .taken))
+    (sent-none (wrote d) (weightWrote d) (weight-wrote d) (d .before .before .before .request-arrives .result .sent) (c .before .kind-load3 .result) (c .before .kind-load3 .ensures .0) (delivered (before t) (numOf t)) (arrives d) (c .if6 .taken))
 
 -- a grant or a list is sent
 pub add-weight-3 : tie.Need-add-weight-3 Inv-loop μ-loop
@@ -151,4 +151,4 @@ loop-again-7 c =
     let t = c .before .before .before .before .before .before .before .before .before .before .before .before .before .before in
     again (turnTook t) 0 (delivered (before t) (numOf t)) (taking t) _ _
     (sent-here (wrote d) (weightWrote d) (weight-wrote d) (d .before .before .before .request-arrives .result .sent) (c .before .before .before .kind-load3 .result) (c .before .before .before .kind-load3 .ensures .0) (delivered (before t) (numOf t)) (arrives d)
-    (freed-flights t) (freed-matched t) (toOf t) (c .with2 .result) (t .lowest-free2 .ensures .0) (c .with2 .ensures) (to-small t) (c .before .before .if5 .left))
+    (freed-flights t) (freed-matched t) (toOf t) (c .with2 .result) (t .lowest-free2 .ensures .0) (c .with2 .ensures) (to-small t) (c .before .before .if6 .left))

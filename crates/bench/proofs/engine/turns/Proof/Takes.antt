@@ -1,35 +1,33 @@
 -- A turn of a delivery: no such message, or its number is freed; and the messages that send nothing on.
 use mathlib.Core.Path.{_≡_, refl, sym, ap, _∙_}
-use mathlib.Core.Bool.{true, false}
-use mathlib.Core.List.{List, []}
+use mathlib.Core.List.{[]}
 use Prim.Native.Nat.{ℕ, _+_, _-_, _*_, _/_, _%_, _≤_, _<_}
 use native.Mathlib.Omega.{arith}
 use borrow.Author.Needs.{needs}
 use borrow.Author.Tests.{not-true, not-false}
 use lib.ListN.{length, set, getD, length-set}
 use Rattle.rules.specs.declared.Board.{Board}
-use Rattle.rules.specs.declared.Process.{Process}
 use Rattle.rules.specs.declared.Kind.{Kind}
-use Rattle.rules.specs.declared.Kind.the-variants.{Free, Grant}
+use Rattle.rules.specs.declared.Kind.the-variants.{Free}
 use Rattle.rules.specs.declared.Entries.{Entries}
 use Rattle.rules.specs.Bits.{lowestFree}
 use Rattle.rules.specs.Lists.{noEntries}
-use Rattle.rules.specs.Board.{with, noFlight, noProcess, kindAt, listAt, processAt, putProcess, freed, load}
+use Rattle.rules.specs.Board.{with, noFlight, noProcess, kindAt, listAt, putProcess, freed, load}
 use Rattle.rules.specs.Commands.{delivered}
 use Rattle.rules.specs.Ranges.{KindRanged, ListRanged}
 use Rattle.rules.proofs.Sheet.{ofBytes}
 use Rattle.rules.proofs.Load.{Matched, matched-freed, load-process}
-use Rattle.bench.proofs.Sends.{Made, read-at, one-free, freed-from, same-matched, freed-fits, freed-weight, nothing-arrives, grant-arrives}
+use Rattle.bench.proofs.Sends.{read-at, one-free, freed-from, same-matched, freed-fits, freed-weight, nothing-arrives, grant-arrives}
 use Rattle.bench.proofs.Turns.{Turns, absent, present}
 use Rattle.bench.proofs.engine.turns.Tie as tie
-use Rattle.bench.proofs.engine.turns.Proof.Loop.{Inv-loop, μ-loop, Turn, boardNow, weightNow, iNow, hiOf, loOf, going, hi-small, ready, weight-most, less, again}
+use Rattle.bench.proofs.engine.turns.Proof.Loop.{Inv-loop, μ-loop, Turn, boardNow, weightNow, hiOf, loOf, going, hi-small, ready, weight-most, less, again, place-small}
 
 -- ---- is it in flight?
 pub has-requires : tie.Need-has-requires Inv-loop μ-loop
 has-requires c κs = search needs
 
 pub slice-write-room-4 : tie.Need-slice-write-room-4 Inv-loop μ-loop
-slice-write-room-4 c = search needs
+slice-write-room-4 c = omega (arith, place-small (c .before .before .before))
 
 pub add-i-4 : tie.Need-add-i-4 Inv-loop μ-loop
 add-i-4 c = search needs
@@ -42,11 +40,11 @@ loop-again-4 c =
     let e = c .before .before .before in
     let b = boardNow e in
     again e 11 b
-    (absent b (hiOf e / 4 % 16) (hiOf e % 4 * 4 + loOf e / 64) (hiOf e % 64) (hiOf e / 64) (omega (arith, hi-small e)) (c .before .before .if1 .left) (c .before .has .result) (omega arith) (c .before .has .ensures) (not-true _ (c .if4 .taken)))
+    (absent b (hiOf e / 4 % 16) (hiOf e % 4 * 4 + loOf e / 64) (hiOf e % 64) (hiOf e / 64) (omega (arith, hi-small e)) (c .before .before .if2 .left) (c .before .has .result) (omega arith) (c .before .has .ensures) (not-true _ (c .if5 .taken)))
     b (weightNow e) (record { board = refl; weight = going e .weight })
 
 pub slice-write-room-5 : tie.Need-slice-write-room-5 Inv-loop μ-loop
-slice-write-room-5 c = search needs
+slice-write-room-5 c = omega (arith, place-small (c .before .before .before))
 
 pub add-i-5 : tie.Need-add-i-5 Inv-loop μ-loop
 add-i-5 c = search needs
@@ -126,7 +124,7 @@ abbrev pub listOf : Took → Entries
 listOf t = getD (before t .lists) (t .before .before .before .before .before .wide2 .result) (record { who = []; leads = []; count = 0; next = 0 })
 
 abbrev pub noneOf : Took → Entries
-noneOf t = t .before .before .before .before .before .before .before .before .before .before .before .before .before .before .no-entries .result
+noneOf t = t .before .before .before .before .before .before .before .before .before .before .before .before .before .before .before .before .before .no-entries .result
 
 -- the board and the load without the message
 abbrev pub freedNow : Took → Board
@@ -148,7 +146,7 @@ pub list-ranged : (t : Took) → ListRanged (listOf t)
 list-ranged t = rw (list-is t) (ready (turnTook t) .ranged .entries (numOf t))
 
 pub freed-is : (t : Took) → freedNow t ≡ freed (before t) (numOf t)
-freed-is t = freed-from (before t) (numOf t) (t .before .before .before .before .before .wide2 .result) (t .before .without .result) (noneOf t) (t .before .before .before .before .before .wide2 .ensures .0) (t .before .without .ensures) (t .before .before .before .before .before .before .before .before .before .before .before .before .before .before .no-entries .ensures)
+freed-is t = freed-from (before t) (numOf t) (t .before .before .before .before .before .wide2 .result) (t .before .without .result) (noneOf t) (t .before .before .before .before .before .wide2 .ensures .0) (t .before .without .ensures) (t .before .before .before .before .before .before .before .before .before .before .before .before .before .before .before .before .before .no-entries .ensures)
 
 pub freed-matched : (t : Took) → Matched (freedNow t)
 freed-matched t = same-matched (freedNow t) (freed (before t) (numOf t)) (freed-is t) (matched-freed (before t) (numOf t) (ready (turnTook t) .matched))
@@ -169,7 +167,7 @@ to-small t = omega (arith, t .lowest-free2 .ensures .0, ap lowestFree (t .before
 pub taking : (t : Took) → Turns (before t) (ofBytes (hiOf (turnTook t)) (loOf (turnTook t))) 0 (delivered (before t) (numOf t))
 taking t =
     let e = t .before .before .before .before .before .before .before .before .before in
-    present (boardNow e) (hiOf e / 4 % 16) (hiOf e % 4 * 4 + loOf e / 64) (hiOf e % 64) (hiOf e / 64) (omega (arith, hi-small e)) (t .before .before .before .before .before .before .before .before .if1 .left) (t .before .before .before .before .before .before .before .has .result) (omega arith) (t .before .before .before .before .before .before .before .has .ensures) (not-false _ (t .before .before .before .before .before .before .if4 .left))
+    present (boardNow e) (hiOf e / 4 % 16) (hiOf e % 4 * 4 + loOf e / 64) (hiOf e % 64) (hiOf e / 64) (omega (arith, hi-small e)) (t .before .before .before .before .before .before .before .before .if2 .left) (t .before .before .before .before .before .before .before .has .result) (omega arith) (t .before .before .before .before .before .before .before .has .ensures) (not-false _ (t .before .before .before .before .before .before .if5 .left))
 
 -- ---- nothing under the number: it stays as it is
 pub enum-told : tie.Need-enum-told Inv-loop μ-loop
