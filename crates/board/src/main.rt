@@ -1,10 +1,5 @@
 // Reads a packed sheet on standard input, runs it, and prints each command's answer, the objects, the rings and the counts.
-ghost use mathlib.Core.Path.{_≡_};
 ghost use Prim.Native.Nat.{_+_, _≤_, _^_};
-ghost use lib.ListN.{take};
-
-mod lines;
-mod text;
 
 // How many bytes follow the first ones, to the end of the input. They are read once and not kept. A proved loop has to end, so it counts
 // its turns, up to a number that no input reaches.
@@ -37,24 +32,8 @@ fn whole_length(first: usize) -> usize
     first + bytes_after()
 }
 
-// The first n bytes.
-fn start(s: &[u8], n: usize) -> &[u8]
-    ensures { λ r. ⌜ now r ≡ take n (now (s .entry)) ⌝ }
-{
-    if n <= s.len() { &s[..n] } else { s }
-}
-
-fn print(text: &[u8; 65536], n: usize) {
-    io::write_all(libc::STDOUT_FILENO, start(text, n));
-}
-
 fn main() {
     let mut sheet = io::large_buffer();
     let first = io::read_full(libc::STDIN_FILENO, &mut sheet);
-    let n = sheet::kept(whole_length(first));
-    let mut room = [0u8; 4096];
-    let ran = sheet::run(start(&sheet, n), &mut room);
-    let mut out = io::large_buffer();
-    let end = lines::report(&mut out, ran, &room);
-    print(&out, end);
+    report::show(&sheet[..first], whole_length(first));
 }
