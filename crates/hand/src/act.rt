@@ -56,7 +56,8 @@ fn open(desk: Desk, plan: Plan, nodes: u8, processes: u8, objects: u8) -> Acted 
     crate::say::answer(a);
     text(b"\n");
     if is_done(a) {
-        return keep(crate::desk::cleared(s.board));
+        let command = desk.command;
+        return keep(crate::desk::cleared(s.board, command));
     }
     stay(desk)
 }
@@ -162,14 +163,19 @@ fn drained(start: Desk, budget: usize) -> Draining {
     Draining { desk, made }
 }
 
-fn deliveries(made: usize) {
+// How many deliveries a drain made, and how many messages its budget left.
+fn tell_drained(made: usize, left: usize) {
     text(b": ");
-    crate::put::number(made);
-    if made == 1 {
-        text(b" delivery\n");
-    } else {
-        text(b" deliveries\n");
+    crate::put::counted(made, b" delivery", b" deliveries");
+    if left != 0 {
+        text(b"; ");
+        crate::put::counted(
+            left,
+            b" message still in flight",
+            b" messages still in flight",
+        );
     }
+    text(b"\n");
 }
 
 fn drain(desk: Desk, budget: usize) -> Acted {
@@ -184,8 +190,9 @@ fn drain(desk: Desk, budget: usize) -> Acted {
     }
     let r = drained(desk, budget);
     let next = r.desk;
-    deliveries(r.made);
-    tell_rings(old, next.board);
+    let new = next.board;
+    tell_drained(r.made, crate::desk::size(new.occupied));
+    tell_rings(old, new);
     if r.made == 0 {
         return stay(desk);
     }

@@ -1,14 +1,18 @@
 // The board on the desk, with the node that sent each message in flight: no message carries it, and only the whole board shows it.
+// With it the command that was the last to change it, which an undo takes back.
+ghost use Prim.Native.Nat.{_<_};
 use crate::put::wide;
 use rules::Board;
 use rules::Command;
 use rules::Entries;
 use rules::Flight;
 use rules::Kind;
+use typed::Typed;
 
 pub struct Desk {
     pub board: Board,
     pub senders: [u8; 64],
+    pub command: Typed,
 }
 
 // Where a command acts: the node, and the message number that it frees; 64, which is none, where it delivers nothing.
@@ -25,13 +29,22 @@ pub fn has(set: u64, k: usize) -> bool {
     false
 }
 
-fn wide32(x: u32) -> usize {
+fn wide32(x: u32) -> usize
+    ensures { λ r. ⌜ r < 4294967296 ⌝ }
+{
     x as usize
 }
 
 // The lowest number in the set; 64 where it has none.
 pub fn lowest(set: u64) -> usize {
     wide32(u64::trailing_zeros(set))
+}
+
+// How many numbers the set has.
+pub fn size(set: u64) -> usize
+    ensures { λ r. ⌜ r < 4294967296 ⌝ }
+{
+    wide32(u64::count_ones(set))
 }
 
 fn at(row: [u8; 16], k: u8) -> u8 {
@@ -118,20 +131,34 @@ fn marked(senders: [u8; 64], before: u64, after: u64, s: Site) -> [u8; 64] {
     r
 }
 
-// The desk after an accepted command.
+// The desk with another board, which an accepted command made of its own.
 pub fn after(desk: Desk, board: Board, s: Site) -> Desk {
     let old = desk.board;
     let senders = desk.senders;
+    let command = desk.command;
     Desk {
         board,
         senders: marked(senders, old.occupied, board.occupied, s),
+        command,
+    }
+}
+
+// The desk under another command.
+pub fn under(desk: Desk, command: Typed) -> Desk {
+    let board = desk.board;
+    let senders = desk.senders;
+    Desk {
+        board,
+        senders,
+        command,
     }
 }
 
 // The desk with a board that has no message.
-pub fn cleared(board: Board) -> Desk {
+pub fn cleared(board: Board, command: Typed) -> Desk {
     Desk {
         board,
         senders: [0; 64],
+        command,
     }
 }

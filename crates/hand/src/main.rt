@@ -14,19 +14,21 @@ use act::Acted;
 use act::Next;
 use desk::Desk;
 use lines::Feed;
+use typed::Typed;
 
 // No board is open yet: all zeros.
 fn closed() -> Desk {
     let s = bench::open(0, 0, 0, [0; 16], [0; 16]);
-    desk::cleared(s.board)
+    desk::cleared(s.board, typed::read(b""))
 }
 
 // What a line does to the desk. A line longer than the room is not understood.
 fn answered(desk: Desk, room: &[u8], count: usize) -> Acted {
     if count <= room.len() {
-        return act::act(desk, plan::of(typed::read(&room[..count])));
+        let t = typed::read(&room[..count]);
+        return act::act(desk::under(desk, t), plan::of(t));
     }
-    say::expected(0, b"a shorter line; help shows the commands");
+    say::too_long();
     Acted {
         desk,
         next: Next::Stay,
@@ -83,12 +85,15 @@ fn end_line(typing: bool) {
     }
 }
 
-fn undone() {
-    put::text(b"undone\n");
+// ---- undo
+fn undone(command: Typed) {
+    put::text(b"undone: ");
+    say::command(command);
+    put::text(b"\n");
 }
 
 fn not_undone() {
-    put::text(b"nothing to undo\n");
+    put::text(b"nothing is left to undo: the last 64 changes are kept\n");
 }
 
 fn main() {
@@ -128,10 +133,11 @@ fn main() {
                     not_undone();
                     continue;
                 }
+                let command = desk.command;
+                undone(command);
                 kept -= 1;
                 top = place_before(top);
                 desk = past[top];
-                undone();
                 continue;
             }
             Next::Stop => {

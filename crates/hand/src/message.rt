@@ -41,7 +41,7 @@ fn kind(k: Kind, l: Entries) {
 // One entry; each but the first names the earlier one that led to it.
 fn entry(l: Entries, i: usize) {
     if i < 16 {
-        comma(i == 0);
+        comma(i, 4);
         crate::put::process(l.who[i]);
         let lead = wide(l.leads[i]);
         if lead < i {
@@ -52,13 +52,14 @@ fn entry(l: Entries, i: usize) {
     }
 }
 
-// The entries of a list with their leads, and the one asked next. A message that is no list has none.
+// The entries of a list with their leads, and the one asked next, on lines of their own. A message that is no list has none.
 fn entries(l: Entries) {
     let n = wide(l.count);
     if n == 0 {
         return;
     }
-    text(b"; entries ");
+    crate::put::next_line();
+    text(b"entries ");
     let mut i: usize = 0;
     while i < 16 {
         if i < n {
@@ -66,7 +67,9 @@ fn entries(l: Entries) {
         }
         i += 1;
     }
-    text(b"; asks ");
+    text(b";");
+    crate::put::gap(n, 4);
+    text(b"asks ");
     crate::put::process(asked(l));
     text(b" next");
 }

@@ -1,6 +1,6 @@
 // What a typed line asks for, apart from any board.
 use crate::put::wide;
-use crate::say::expected;
+use crate::put::wide16;
 use rules::Command;
 use typed::Typed;
 use typed::Verb;
@@ -33,9 +33,10 @@ fn plain(what: What) -> Plan {
     }
 }
 
-// A line that is not understood says what was expected.
-fn odd(place: usize, form: &[u8]) -> Plan {
-    expected(place, form);
+// A line that is not understood, of a command that takes so many words at most: what is wrong with it, and what was expected.
+fn odd(t: Typed, most: usize, form: &[u8]) -> Plan {
+    crate::say::fault(t, most);
+    crate::say::expected(form);
     plain(What::Nothing)
 }
 
@@ -45,10 +46,6 @@ fn cut(n: u16) -> u8 {
         return n as u8;
     }
     255
-}
-
-fn whole(n: u16) -> usize {
-    n as usize
 }
 
 // ---- opening
@@ -101,8 +98,10 @@ fn open(t: Typed) -> Plan {
         }
     }
     odd(
-        t.odd,
-        b"open NODES PROCESSES OBJECTS, as in open 3 3 2, and after them no home, or one for each process and each object",
+        t,
+        35,
+        b"open NODES PROCESSES OBJECTS, as in open 3 3 2, and after them
+  no home, or the home node of each process and then of each object",
     )
 }
 
@@ -115,8 +114,10 @@ fn request(t: Typed) -> Plan {
         }
     }
     odd(
-        t.odd,
-        b"request PROCESS OBJECT shared|exclusive, as in request 0 1 x",
+        t,
+        3,
+        b"request PROCESS OBJECT MODE, as in request 0 1 exclusive
+  (type 0 for p0 and 1 for o1; a mode is shared or s, exclusive or x)",
     )
 }
 
@@ -127,7 +128,12 @@ fn release(t: Typed) -> Plan {
             return plain(What::Step(Command::Release(cut(row[0]), cut(row[1]))));
         }
     }
-    odd(t.odd, b"release PROCESS OBJECT, as in release 0 1")
+    odd(
+        t,
+        2,
+        b"release PROCESS OBJECT, as in release 0 1
+  (type 0 for p0 and 1 for o1)",
+    )
 }
 
 fn deliver(t: Typed) -> Plan {
@@ -137,7 +143,7 @@ fn deliver(t: Typed) -> Plan {
             return plain(What::Step(Command::Deliver(cut(row[0]))));
         }
     }
-    odd(t.odd, b"deliver MESSAGE, as in deliver 0")
+    odd(t, 1, b"deliver MESSAGE, as in deliver 0")
 }
 
 // Without a budget: no board needs as many deliveries.
@@ -148,10 +154,14 @@ fn drain(t: Typed) -> Plan {
             return plain(What::Drain(65535));
         }
         if t.count == 1 {
-            return plain(What::Drain(whole(row[0])));
+            return plain(What::Drain(wide16(row[0])));
         }
     }
-    odd(t.odd, b"drain, or drain DELIVERIES, as in drain 5")
+    odd(
+        t,
+        1,
+        b"drain, or drain BUDGET, as in drain 5 (at most 5 deliveries)",
+    )
 }
 
 // A command that takes no number.
@@ -159,11 +169,16 @@ fn alone(t: Typed, what: What) -> Plan {
     if t.count == 0 {
         return plain(what);
     }
-    odd(0, b"nothing after this command")
+    odd(t, 0, b"the command alone")
 }
 
 fn blank() -> Plan {
     crate::put::text(b"nothing typed; help shows the commands\n");
+    plain(What::Nothing)
+}
+
+fn unknown() -> Plan {
+    crate::say::unknown();
     plain(What::Nothing)
 }
 
@@ -187,9 +202,6 @@ pub fn of(t: Typed) -> Plan {
         Verb::Undo => alone(t, What::Undo),
         Verb::Help => help(),
         Verb::Quit => alone(t, What::Quit),
-        Verb::Unknown => odd(
-            0,
-            b"open, request, release, deliver, drain, show, waits, rings, undo, help or quit",
-        ),
+        Verb::Unknown => unknown(),
     }
 }

@@ -13,8 +13,22 @@ pub fn wide(x: u8) -> usize
     x as usize
 }
 
+pub fn wide16(x: u16) -> usize {
+    x as usize
+}
+
 pub fn number(n: usize) {
     io::print_decimal(1, n as u64);
+}
+
+// A number of things.
+pub fn counted(n: usize, one: &[u8], many: &[u8]) {
+    number(n);
+    if n == 1 {
+        text(one);
+        return;
+    }
+    text(many);
 }
 
 pub fn small(n: u8) {
@@ -36,13 +50,18 @@ pub fn node(n: u8) {
     small(n);
 }
 
+pub fn mode_word(exclusive: bool) {
+    if exclusive {
+        text(b"exclusive");
+    } else {
+        text(b"shared");
+    }
+}
+
 // A mode, after what it belongs to.
 pub fn mode_if(exclusive: bool) {
-    if exclusive {
-        text(b" exclusive");
-    } else {
-        text(b" shared");
-    }
+    text(b" ");
+    mode_word(exclusive);
 }
 
 pub fn mode(m: Mode) {
@@ -52,9 +71,35 @@ pub fn mode(m: Mode) {
     }
 }
 
-// What stands before the next of several.
-pub fn comma(first: bool) {
-    if !first {
-        text(b", ");
+// ---- several things in a row, so many to a line that no line is longer than 80 columns
+pub fn next_line() {
+    text(b"\n      ");
+}
+
+// Item i of a row starts a line, where so many stand on each.
+fn starts_line(i: usize, on_each: usize) -> bool {
+    if i == 0 {
+        return false;
+    }
+    if on_each == 0 {
+        return false;
+    }
+    i % on_each == 0
+}
+
+// What stands before item i of a row.
+pub fn gap(i: usize, on_each: usize) {
+    if starts_line(i, on_each) {
+        next_line();
+        return;
+    }
+    text(b" ");
+}
+
+// What stands between item i of a row and the one before it.
+pub fn comma(i: usize, on_each: usize) {
+    if i != 0 {
+        text(b",");
+        gap(i, on_each);
     }
 }

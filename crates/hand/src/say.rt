@@ -1,6 +1,8 @@
-// Answers in words, what was expected where a line is not understood, and the help.
+// Answers and commands in words, what was expected where a line is not understood, and the help.
 use crate::put::text;
 use rules::Answer;
+use typed::Typed;
+use typed::Verb;
 
 // The end of the row that starts at a place.
 fn row_end(table: &[u8], from: usize) -> usize {
@@ -62,35 +64,143 @@ pub fn answer(a: Answer) {
     );
 }
 
-// A line that is not understood changes nothing. `odd` is the place of a word that is no number; 0 where each is.
-pub fn expected(odd: usize, form: &[u8]) {
-    text(b"not understood: ");
-    if odd != 0 {
-        text(b"word ");
-        crate::put::number(odd);
-        text(b" after the command is no number; ");
+// ---- a command in words
+fn name(verb: Verb) {
+    match verb {
+        Verb::Blank => text(b"nothing"),
+        Verb::Open => text(b"open"),
+        Verb::Request => text(b"request"),
+        Verb::Release => text(b"release"),
+        Verb::Deliver => text(b"deliver"),
+        Verb::Drain => text(b"drain"),
+        Verb::Show => text(b"show"),
+        Verb::Waits => text(b"waits"),
+        Verb::Rings => text(b"rings"),
+        Verb::Undo => text(b"undo"),
+        Verb::Help => text(b"help"),
+        Verb::Quit => text(b"quit"),
+        Verb::Unknown => text(b"the command"),
     }
-    text(b"expected ");
+}
+
+// The words of a command behind its name.
+fn arguments(t: Typed) {
+    let verb = t.verb;
+    let row = t.numbers;
+    let mut i: usize = 0;
+    while i < 35 {
+        if i < t.count {
+            if typed::asks_mode(verb, i) {
+                crate::put::mode_if(row[i] == 1);
+            } else {
+                crate::put::gap(i, 20);
+                crate::put::number(crate::put::wide16(row[i]));
+            }
+        }
+        i += 1;
+    }
+}
+
+// A command that was done, in its long form.
+pub fn command(t: Typed) {
+    let verb = t.verb;
+    name(verb);
+    arguments(t);
+}
+
+// ---- a line that is not understood changes nothing
+fn after(verb: Verb) {
+    text(b" after ");
+    name(verb);
+}
+
+// The word at a place, from 1, does not stand for what it should.
+fn misread(verb: Verb, place: usize) {
+    text(b"word ");
+    crate::put::number(place);
+    after(verb);
+    if 0 < place {
+        if typed::asks_mode(verb, place - 1) {
+            text(b" is no mode\n");
+            return;
+        }
+    }
+    text(b" is no number\n");
+}
+
+fn miscounted(verb: Verb, count: usize) {
+    if count == 0 {
+        text(b"nothing");
+    } else {
+        crate::put::counted(count, b" word", b" words");
+    }
+    after(verb);
+    text(b"\n");
+}
+
+// What is wrong with the words of a command that takes so many at most.
+pub fn fault(t: Typed, most: usize) {
+    let verb = t.verb;
+    text(b"not understood: ");
+    if t.odd == 0 {
+        miscounted(verb, t.count);
+        return;
+    }
+    if most < t.odd {
+        miscounted(verb, t.count);
+        return;
+    }
+    misread(verb, t.odd);
+}
+
+pub fn expected(form: &[u8]) {
+    text(b"  expected ");
     text(form);
     text(b"\n");
 }
 
+pub fn unknown() {
+    text(
+        b"not understood: no command has this name
+  expected open, request, release, deliver, drain, show, waits, rings, undo,
+  help or quit; help explains them
+",
+    );
+}
+
+pub fn too_long() {
+    text(
+        b"not understood: a line of more than 1000 bytes
+  expected a command; help explains them
+",
+    );
+}
+
 pub fn help() {
     text(
-        b"open N P O         o   a board of N nodes, P processes, O objects; pK and oK live on node K modulo N
-open N P O HOMES   o   the same; then the home node of each process and of each object
-request P O MODE   r   process P asks for object O, shared (s) or exclusive (x)
+        b"Beside each command stands its short form.
+open N P O         o   a board of N nodes (1 to 8), P processes (1 to 16) and
+                       O objects (1 to 16); pK and oK live on node K modulo N
+open N P O HOMES   o   the same; then the home node of each process and object
+request P O MODE   r   process P asks for object O; MODE is shared or s,
+                       exclusive or x
 release P O        re  process P gives object O back
 deliver M          d   message M arrives
-drain              dr  the lowest message arrives, again and again, until none is left
-drain N            dr  the same, at most N times
-show               s   what each node can know, and what only the whole board shows
-waits              w   who waits for whom, and why
-rings              ri  the recorded rings
-undo               u   back to the board before the last change, 64 times at most
+drain              dr  the lowest message arrives, again and again, until none
+                       is in flight
+drain BUDGET       dr  the same, with at most BUDGET deliveries
+show               s   what each node can know, and what only the whole board
+                       shows
+waits              w   who waits for whom, why, and at which node
+rings              ri  the recorded rings; in a ring each waits for the next,
+                       and the last for the first
+undo               u   takes the last change back; the last 64 are kept
 help               h   this
 quit               q   the end
 Numbers are decimal, from 0: request 0 1 x is p0 asking for o1, exclusive.
+Load is messages in flight, plus processes standing in lines, plus requests in
+flight (so a request counts twice). It never passes 64: a request is refused
+where it is above 62, and a release where it is above 63 (answer 10).
 ",
     );
 }

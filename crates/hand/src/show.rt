@@ -1,6 +1,7 @@
 // The board as a class should see it: what each node can know, and what only the whole board shows.
 use crate::desk::Desk;
 use crate::desk::has;
+use crate::desk::size;
 use crate::put::comma;
 use crate::put::text;
 use crate::put::wide;
@@ -11,9 +12,9 @@ use rules::Ring;
 use rules::Wait;
 
 // ---- one node
-// One hold among several.
-fn hold(letter: &[u8], k: usize, exclusive: bool, first: bool) {
-    comma(first);
+// Number k, which is hold i of a row.
+fn hold(letter: &[u8], k: usize, exclusive: bool, i: usize) {
+    comma(i, 4);
     text(letter);
     crate::put::number(k);
     crate::put::mode_if(exclusive);
@@ -21,25 +22,37 @@ fn hold(letter: &[u8], k: usize, exclusive: bool, first: bool) {
 
 // The numbers of two sets, one for each mode; a word where there are none.
 fn holds(letter: &[u8], shared: u64, exclusive: u64, none: &[u8]) {
-    let mut first = true;
+    let mut told: usize = 0;
     let mut i: usize = 0;
     while i < 16 {
-        if has(shared | exclusive, i) {
-            hold(letter, i, has(exclusive, i), first);
-            first = false;
+        if !has(shared | exclusive, i) {
+            i += 1;
+            continue;
         }
+        hold(letter, i, has(exclusive, i), told);
+        told += 1;
         i += 1;
     }
-    if first {
+    if told == 0 {
         text(none);
+    }
+}
+
+// What comes after a row: on its line where the row has at most so many items, else on the next.
+fn clause(items: usize, most: usize) {
+    text(b";");
+    if items <= most {
+        text(b" ");
+    } else {
+        crate::put::next_line();
     }
 }
 
 fn noted(w: Wait) {
     match w {
-        Wait::NotWaiting => text(b"; notes no wait"),
+        Wait::NotWaiting => text(b"notes no wait"),
         Wait::Waiting(o, m) => {
-            text(b"; notes a wait for ");
+            text(b"notes a wait for ");
             crate::put::object(o);
             crate::put::mode(m);
         }
@@ -51,6 +64,7 @@ fn process_line(k: usize, p: Process) {
     crate::put::number(k);
     text(b" holds ");
     holds(b"o", p.shared, p.exclusive, b"nothing");
+    clause(size(p.shared | p.exclusive), 1);
     let w = p.wait;
     noted(w);
     if p.released {
@@ -68,7 +82,7 @@ fn line_of(o: Object) {
     let mut i: usize = 0;
     while i < 16 {
         if i < n {
-            comma(i == 0);
+            comma(i, 4);
             crate::put::process(o.line[i]);
             crate::put::mode_if(has(o.line_exclusive, i));
         }
@@ -81,35 +95,56 @@ fn object_line(k: usize, o: Object) {
     crate::put::number(k);
     text(b" held by ");
     holds(b"p", o.shared, o.exclusive, b"nobody");
-    text(b"; line: ");
+    clause(size(o.shared | o.exclusive) + wide(o.line_count), 3);
+    text(b"line: ");
     line_of(o);
     text(b"\n");
 }
 
-fn processes_of(b: Board, node: usize) {
+// The processes that live on a node; whether there are any.
+fn processes_of(b: Board, node: usize) -> bool {
     let n = wide(b.process_count);
+    let mut some = false;
     let mut i: usize = 0;
     while i < 16 {
         if i < n {
             if wide(b.process_home[i]) == node {
                 process_line(i, b.processes[i]);
+                some = true;
             }
         }
         i += 1;
     }
+    some
 }
 
-fn objects_of(b: Board, node: usize) {
+// The objects that live on a node; whether there are any.
+fn objects_of(b: Board, node: usize) -> bool {
     let n = wide(b.object_count);
+    let mut some = false;
     let mut i: usize = 0;
     while i < 16 {
         if i < n {
             if wide(b.object_home[i]) == node {
                 object_line(i, b.objects[i]);
+                some = true;
             }
         }
         i += 1;
     }
+    some
+}
+
+fn node(b: Board, number: usize) {
+    text(b"node ");
+    crate::put::number(number);
+    text(b" can know\n");
+    let processes = processes_of(b, number);
+    let objects = objects_of(b, number);
+    if processes | objects {
+        return;
+    }
+    text(b"  nothing lives here\n");
 }
 
 fn nodes(b: Board) {
@@ -117,11 +152,7 @@ fn nodes(b: Board) {
     let mut i: usize = 0;
     while i < 8 {
         if i < n {
-            text(b"node ");
-            crate::put::number(i);
-            text(b" can know\n");
-            processes_of(b, i);
-            objects_of(b, i);
+            node(b, i);
         }
         i += 1;
     }
@@ -154,7 +185,7 @@ pub fn ring(before: &[u8], r: Ring) {
     let mut i: usize = 0;
     while i < 16 {
         if i < n {
-            comma(i == 0);
+            comma(i, 10);
             crate::put::process(r.processes[i]);
         }
         i += 1;
@@ -181,5 +212,5 @@ pub fn board(desk: Desk) {
     rings(b);
     text(b"  load ");
     crate::put::number(shape::load(b));
-    text(b"\n");
+    text(b" of at most 64\n");
 }

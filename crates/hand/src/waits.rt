@@ -1,31 +1,33 @@
-// Who waits for whom, and why. Only lines count, not requests still travelling.
+// Who waits for whom, why, and at which node: each wait stands in a line, and the home of the object has the line. Only lines count, not
+// requests still travelling.
 use crate::desk::has;
 use crate::put::text;
 use crate::put::wide;
 use rules::Board;
 use rules::Object;
 
-// One process of a line: where it stands, and in which mode.
+// One process of a line, and its mode.
 pub struct Waiter {
-    pub object: usize,
     pub process: u8,
     pub exclusive: bool,
 }
 
-// The waiter, another, the reason, and the two modes.
+fn in_brackets(exclusive: bool) {
+    text(b" (");
+    crate::put::mode_word(exclusive);
+    text(b")");
+}
+
+// The waiter, another and the reason, with the modes of both.
 fn tell(w: Waiter, q: u8, reason: &[u8], exclusive: bool) {
     text(b"  ");
     crate::put::process(w.process);
+    in_brackets(w.exclusive);
     text(b" waits for ");
     crate::put::process(q);
-    text(b", which ");
     text(reason);
-    text(b"o");
-    crate::put::number(w.object);
-    text(b" in conflict:");
-    crate::put::mode_if(exclusive);
-    text(b" against");
-    crate::put::mode_if(w.exclusive);
+    text(b" in conflict");
+    in_brackets(exclusive);
     text(b"\n");
 }
 
@@ -47,7 +49,7 @@ fn holders(w: Waiter, shared: u64, exclusive: u64) {
     let mut q: u8 = 0;
     while q < 16 {
         if has(shared | exclusive, wide(q)) {
-            tell_if(w, q, b"holds ", has(exclusive, wide(q)));
+            tell_if(w, q, b", which holds it", has(exclusive, wide(q)));
         }
         q += 1;
     }
@@ -60,7 +62,7 @@ fn ahead(w: Waiter, o: Object, k: usize) {
             tell_if(
                 w,
                 o.line[j],
-                b"stands ahead in the line of ",
+                b", which stands ahead",
                 has(o.line_exclusive, j),
             );
         }
@@ -68,13 +70,24 @@ fn ahead(w: Waiter, o: Object, k: usize) {
     }
 }
 
-fn in_line(number: usize, o: Object) {
+fn heading(number: usize, home: u8) {
+    text(b"at ");
+    crate::put::node(home);
+    text(b", in the line of o");
+    crate::put::number(number);
+    text(b"\n");
+}
+
+fn in_line(number: usize, home: u8, o: Object) {
     let n = wide(o.line_count);
+    if n == 0 {
+        return;
+    }
+    heading(number, home);
     let mut k: usize = 0;
     while k < 16 {
         if k < n {
             let w = Waiter {
-                object: number,
                 process: o.line[k],
                 exclusive: has(o.line_exclusive, k),
             };
@@ -104,7 +117,7 @@ pub fn all(b: Board) {
     }
     let mut i: usize = 0;
     while i < 16 {
-        in_line(i, b.objects[i]);
+        in_line(i, b.object_home[i], b.objects[i]);
         i += 1;
     }
 }

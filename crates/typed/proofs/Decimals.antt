@@ -12,7 +12,7 @@ use Rattle.rules.proofs.Tables.{by-test}
 use Rattle.typed.specs.declared.Meaning.the-variants.{Number, Odd}
 use Rattle.typed.specs.Words.{words}
 use Rattle.typed.specs.Names.{placeIn, modeNames}
-use Rattle.typed.specs.Numbers.{isDigit, largest, decimalFrom, modeOr, meaning}
+use Rattle.typed.specs.Numbers.{isDigit, largest, decimalFrom, modeOr, mode}
 
 pub digit : (c : ℕ) → 48 ≤ c → c ≤ 57 → isDigit c ≡ true
 unfolding isDigit
@@ -46,10 +46,10 @@ unfolding decimalFrom
 decimal-ends n w i h = rw (drop-of-length-le w h)
 
 -- ---- a mode's name, or a number
-pub mode-named : (w : List ℕ) (p : ℕ) → p ≡ placeIn w (words modeNames) → p < 4 → Number (p / 2) ≡ meaning w
-unfolding meaning modeOr
+pub mode-named : (w : List ℕ) (p : ℕ) → p ≡ placeIn w (words modeNames) → p < 4 → Number (p / 2) ≡ mode w
+unfolding mode modeOr
 mode-named w p e h = rw (← e, lt-ltb p 4 h)
 
-pub mode-not : (w : List ℕ) (p : ℕ) → p ≡ placeIn w (words modeNames) → 4 ≤ p → decimalFrom 0 w ≡ meaning w
-unfolding meaning modeOr
+pub mode-not : (w : List ℕ) (p : ℕ) → p ≡ placeIn w (words modeNames) → 4 ≤ p → decimalFrom 0 w ≡ mode w
+unfolding mode modeOr
 mode-not w p e h = rw (← e, le-ltb p 4 h)

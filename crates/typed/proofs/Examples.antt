@@ -8,7 +8,7 @@ use Rattle.typed.specs.declared.Verb.{Verb}
 use Rattle.typed.specs.declared.Verb.the-variants.{Blank, Open, Request, Release, Deliver, Drain, Show, Quit, Unknown}
 use Rattle.typed.specs.Words.{blank, ofSort, run, wordsFrom}
 use Rattle.typed.specs.Names.{bytes, alike, placeIn, verbOf}
-use Rattle.typed.specs.Numbers.{isDigit, decimalFrom, modeOr, meaning}
+use Rattle.typed.specs.Numbers.{isDigit, decimalFrom, modeOr, mode, asksMode, meaning}
 use Rattle.typed.specs.Reading.{withWords, reading}
 
 -- the verb, the numbers, how many words came after the verb, and the place of the first of them that is not understood
@@ -27,8 +27,13 @@ lines :
     × Says "d 70000" Deliver (65535 ∷ []) 1 0
     × Says "drain" Drain [] 0 0
     × Says "request p0 1 y" Request (0 ∷ 1 ∷ []) 3 1
+    × Says "request 0 1 2" Request (0 ∷ 1 ∷ 2 ∷ []) 3 0
+    × Says "request 0 1 y" Request (0 ∷ 1 ∷ []) 3 3
+    × Says "request s x x" Request (0 ∷ 0 ∷ 1 ∷ []) 3 1
+    × Says "open x x x" Open [] 3 1
+    × Says "deliver s" Deliver [] 1 1
     × Says "quit -1" Quit [] 1 1
     × Says "requests 7" Unknown (7 ∷ []) 1 0
     × Says "show 1 2 3 4 5 6 7 8 9 0 1 2 3 4 5 6 7 8 9 0 1 2 3 4 5 6 7 8 9 0 1 2 3 4 5 6 7" Show (1 ∷ 2 ∷ 3 ∷ 4 ∷ 5 ∷ 6 ∷ 7 ∷ 8 ∷ 9 ∷ 0 ∷ 1 ∷ 2 ∷ 3 ∷ 4 ∷ 5 ∷ 6 ∷ 7 ∷ 8 ∷ 9 ∷ 0 ∷ 1 ∷ 2 ∷ 3 ∷ 4 ∷ 5 ∷ 6 ∷ 7 ∷ 8 ∷ 9 ∷ 0 ∷ 1 ∷ 2 ∷ 3 ∷ 4 ∷ 5 ∷ []) 37 0
-unfolding reading withWords wordsFrom run blank ofSort alike placeIn verbOf isDigit decimalFrom modeOr meaning
-lines = (refl, refl, refl, refl, refl, refl, refl, refl, refl, refl, refl, refl, refl, refl)
+unfolding reading withWords wordsFrom run blank ofSort alike placeIn verbOf isDigit decimalFrom modeOr mode asksMode meaning
+lines = (refl, refl, refl, refl, refl, refl, refl, refl, refl, refl, refl, refl, refl, refl, refl, refl, refl, refl, refl)

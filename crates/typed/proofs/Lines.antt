@@ -19,12 +19,12 @@ module _ (s : List ℕ) (at : ℕ) (n : Span) (next : NextWord s at n) where
   no-more t h = ap (withWords t) (next .none h)
 
   one-more : (t : Typed) → n .start < length s
-      → withWords t (words (drop at s)) ≡ withWords (withMeaning (meaning (part s (n .start) (n .end))) t) (words (drop (n .end) s))
+      → withWords t (words (drop at s)) ≡ withWords (withMeaning (meaning (t .verb) (t .count) (part s (n .start) (n .end))) t) (words (drop (n .end) s))
   unfolding withWords
   one-more t h = ap (withWords t) (next .first h)
 
   -- what a turn of the reader makes of the word leaves the whole as it was
-  pub turned : (t new whole : Typed) (m : Meaning) → n .start < length s → m ≡ meaning (part s (n .start) (n .end)) → new ≡ withMeaning m t
+  pub turned : (t new whole : Typed) (m : Meaning) → n .start < length s → m ≡ meaning (t .verb) (t .count) (part s (n .start) (n .end)) → new ≡ withMeaning m t
       → withWords t (words (drop at s)) ≡ whole → withWords new (words (drop (n .end) s)) ≡ whole
   turned t new whole m h e f g =
       ap (λ (x : Typed). withWords x (words (drop (n .end) s))) (f ∙ ap (λ (x : Meaning). withMeaning x t) e) ∙ sym (one-more t h) ∙ g

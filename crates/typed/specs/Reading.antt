@@ -31,7 +31,7 @@ withMeaning Odd t = withOdd t
 
 unfoldable pub withWords : Typed → List (List ℕ) → Typed
 withWords t [] = t
-withWords t (w ∷ ws) = withWords (withMeaning (meaning w) t) ws
+withWords t (w ∷ ws) = withWords (withMeaning (meaning (t .verb) (t .count) w) t) ws
 
 abbrev pub ofWords : List (List ℕ) → Typed
 ofWords [] = begun Blank

@@ -6,6 +6,7 @@ mod words;
 ghost use mathlib.Core.Path.{_≡_};
 ghost use Prim.Native.Nat.{_+_, _≤_, _<_, _^_};
 ghost use lib.ListN.{length, drop};
+ghost use Rattle.typed.specs.Numbers as Numbers;
 ghost use Rattle.typed.specs.Reading as Reading;
 ghost use Rattle.typed.specs.Words as Words;
 
@@ -39,6 +40,16 @@ pub struct Typed {
     pub numbers: [u16; 35],
     pub count: usize,
     pub odd: usize,
+}
+
+// A verb asks for a mode behind so many words: a request, behind its process and its object.
+pub fn asks_mode(verb: Verb, before: usize) -> bool
+    ensures { λ r. ⌜ r ≡ Numbers.asksMode verb before ⌝ }
+{
+    match verb {
+        Verb::Request => before == 2,
+        _ => false,
+    }
 }
 
 fn begun(verb: Verb) -> Typed
@@ -116,7 +127,8 @@ fn arguments(line: &[u8], from: usize, begun: Typed) -> Typed
             return t;
         }
         at = end;
-        match number::meaning(&line[start..end]) {
+        let verb = t.verb;
+        match number::meaning(verb, t.count, &line[start..end]) {
             Meaning::Number(n) => {
                 t = with_number(t, n);
                 continue;

@@ -3,6 +3,7 @@ ghost use mathlib.Core.Path.{_≡_};
 ghost use Prim.Native.Nat.{_+_, _-_, _*_, _≤_, min};
 ghost use Rattle.typed.specs.Numbers as Numbers;
 use crate::Meaning;
+use crate::Verb;
 
 fn wide(c: u8) -> u32
     ensures { λ r. ⌜ r ≡ c ⌝ }
@@ -42,13 +43,23 @@ fn decimal(word: &[u8]) -> Meaning
     Meaning::Number(n as u16)
 }
 
-// A number, or the number of the mode that the word names.
-pub fn meaning(word: &[u8]) -> Meaning
-    ensures { λ r. ⌜ r ≡ Numbers.meaning (now (word .entry)) ⌝ }
+// The number of the mode that a word names, or a number.
+fn mode(word: &[u8]) -> Meaning
+    ensures { λ r. ⌜ r ≡ Numbers.mode (now (word .entry)) ⌝ }
 {
     let place = crate::names::place_in(word, b"shared s exclusive x");
     if place < 4 {
         return Meaning::Number((place / 2) as u16);
+    }
+    decimal(word)
+}
+
+// What a word of a verb stands for, with so many words before it.
+pub fn meaning(verb: Verb, before: usize, word: &[u8]) -> Meaning
+    ensures { λ r. ⌜ r ≡ Numbers.meaning verb before (now (word .entry)) ⌝ }
+{
+    if crate::asks_mode(verb, before) {
+        return mode(word);
     }
     decimal(word)
 }

@@ -11,6 +11,9 @@ slice-aggregate-read c = sym (length-take-le _ _ (c .before .if1 .taken))
 read-requires : tie.Need-read-requires
 read-requires c κs = search needs
 
+under-requires : tie.Need-under-requires
+under-requires c κs = search needs
+
 of-requires : tie.Need-of-requires
 of-requires c κs = search needs
 
@@ -20,11 +23,8 @@ act-requires c κs = search needs
 returns : tie.Need-returns
 returns c = search needs
 
-slice-aggregate-expected : tie.Need-slice-aggregate-expected
-slice-aggregate-expected c = search needs
-
-expected-requires : tie.Need-expected-requires
-expected-requires c κs = search needs
+too-long-requires : tie.Need-too-long-requires
+too-long-requires c κs = search needs
 
 returns-2 : tie.Need-returns-2
 returns-2 c = search needs
@@ -35,9 +35,9 @@ answered-spec =
     (tie.spec
     slice-aggregate-read
     read-requires
+    under-requires
     of-requires
     act-requires
     returns
-    slice-aggregate-expected
-    expected-requires
+    too-long-requires
     returns-2)

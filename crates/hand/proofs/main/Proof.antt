@@ -1,6 +1,7 @@
 -- `hand::main` is safe and ends. The loop's invariant: the top of the kept boards is a place of theirs, and the arrays keep their lengths. The measure is the turns left. Assumes nothing.
 use mathlib.Core.Path.{_≡_}
 use Prim.Native.Nat.{_≤_, _<_}
+use native.Mathlib.Omega.{arith}
 use lib.ListN.{length}
 use borrow.Author.Needs.{needs}
 use Rattle.hand.proofs.main.Statement.{statement}
@@ -93,6 +94,9 @@ loop-less-3 c = search needs
 loop-again-3 : tie.Need-loop-again-3 Inv-loop μ-loop
 loop-again-3 c = search needs
 
+undone-requires : tie.Need-undone-requires Inv-loop μ-loop
+undone-requires c κs = search needs
+
 sub-kept : tie.Need-sub-kept Inv-loop μ-loop
 sub-kept c = search needs
 
@@ -105,14 +109,11 @@ mul-desk c = search needs
 array-copy-out-desk : tie.Need-array-copy-out-desk Inv-loop μ-loop
 array-copy-out-desk c = search needs
 
-undone-requires : tie.Need-undone-requires Inv-loop μ-loop
-undone-requires c κs = search needs
-
 loop-less-4 : tie.Need-loop-less-4 Inv-loop μ-loop
 loop-less-4 c = search needs
 
 loop-again-4 : tie.Need-loop-again-4 Inv-loop μ-loop
-loop-again-4 c = search needs
+loop-again-4 c = let inv = c .before .before .before .before .before .before .before .before .before .before .before .before .before .before .before .before .before .before .before .loop .inv in (search needs, omega (arith, inv .1), search needs, search needs, inv .4)
 
 enum-told-4 : tie.Need-enum-told-4 Inv-loop μ-loop
 enum-told-4 c = search needs
@@ -159,11 +160,11 @@ main-spec =
     not-undone-requires
     loop-less-3
     loop-again-3
+    undone-requires
     sub-kept
     place-before-requires
     mul-desk
     array-copy-out-desk
-    undone-requires
     loop-less-4
     loop-again-4
     enum-told-4

@@ -5,16 +5,19 @@ use Rattle.hand.proofs.message.entries.Statement.{statement}
 use Rattle.hand.proofs.message.entries.Tie as tie
 
 abbrev Inv-loop : tie.InvT-loop
-Inv-loop l n i₀ t5 t6 i = i ≤ 16
+Inv-loop l n i₀ t5 t6 t7 i = i ≤ 16
 
 abbrev μ-loop : tie.MeasureT-loop
-μ-loop l n i₀ t5 t6 i = 16 - i
+μ-loop l n i₀ t5 t6 t7 i = 16 - i
 
 wide-requires : tie.Need-wide-requires Inv-loop μ-loop
 wide-requires c κs = search needs
 
 returns : tie.Need-returns Inv-loop μ-loop
 returns c = search needs
+
+next-line-requires : tie.Need-next-line-requires Inv-loop μ-loop
+next-line-requires c κs = search needs
 
 slice-aggregate-text : tie.Need-slice-aggregate-text Inv-loop μ-loop
 slice-aggregate-text c = search needs
@@ -43,17 +46,26 @@ slice-aggregate-text-2 c = search needs
 text-requires-2 : tie.Need-text-requires-2 Inv-loop μ-loop
 text-requires-2 c κs = search needs
 
-asked-requires : tie.Need-asked-requires Inv-loop μ-loop
-asked-requires c κs = search needs
-
-process-requires : tie.Need-process-requires Inv-loop μ-loop
-process-requires c κs = search needs
+gap-requires : tie.Need-gap-requires Inv-loop μ-loop
+gap-requires c κs = search needs
 
 slice-aggregate-text-3 : tie.Need-slice-aggregate-text-3 Inv-loop μ-loop
 slice-aggregate-text-3 c = search needs
 
 text-requires-3 : tie.Need-text-requires-3 Inv-loop μ-loop
 text-requires-3 c κs = search needs
+
+asked-requires : tie.Need-asked-requires Inv-loop μ-loop
+asked-requires c κs = search needs
+
+process-requires : tie.Need-process-requires Inv-loop μ-loop
+process-requires c κs = search needs
+
+slice-aggregate-text-4 : tie.Need-slice-aggregate-text-4 Inv-loop μ-loop
+slice-aggregate-text-4 c = search needs
+
+text-requires-4 : tie.Need-text-requires-4 Inv-loop μ-loop
+text-requires-4 c κs = search needs
 
 returns-2 : tie.Need-returns-2 Inv-loop μ-loop
 returns-2 c = search needs
@@ -66,6 +78,7 @@ entries-spec =
     μ-loop
     wide-requires
     returns
+    next-line-requires
     slice-aggregate-text
     text-requires
     loop-holds
@@ -75,8 +88,11 @@ entries-spec =
     loop-again
     slice-aggregate-text-2
     text-requires-2
-    asked-requires
-    process-requires
+    gap-requires
     slice-aggregate-text-3
     text-requires-3
+    asked-requires
+    process-requires
+    slice-aggregate-text-4
+    text-requires-4
     returns-2)

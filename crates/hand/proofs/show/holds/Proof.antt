@@ -1,26 +1,20 @@
--- `hand::show::holds` is safe and ends. The loop counts the 16 numbers of a set. Assumes nothing.
+-- `hand::show::holds` is safe and ends. The loop counts the 16 numbers; no more are told than were passed. Assumes nothing.
 use Prim.Native.Nat.{_≤_, _-_}
 use borrow.Author.Needs.{needs}
 use Rattle.hand.proofs.show.holds.Statement.{statement}
 use Rattle.hand.proofs.show.holds.Tie as tie
 
 abbrev Inv-loop : tie.InvT-loop
-Inv-loop letter shared exclusive none first₀ i₀ first i = i ≤ 16
+Inv-loop letter shared exclusive none told₀ i₀ told i = (i ≤ 16) × (told ≤ i)
 
 abbrev μ-loop : tie.MeasureT-loop
-μ-loop letter shared exclusive none first₀ i₀ first i = 16 - i
+μ-loop letter shared exclusive none told₀ i₀ told i = 16 - i
 
 loop-holds : tie.Need-loop-holds Inv-loop μ-loop
 loop-holds c = search needs
 
 has-requires : tie.Need-has-requires Inv-loop μ-loop
 has-requires c κs = search needs
-
-has-requires-2 : tie.Need-has-requires-2 Inv-loop μ-loop
-has-requires-2 c κs = search needs
-
-hold-requires : tie.Need-hold-requires Inv-loop μ-loop
-hold-requires c κs = search needs
 
 add-i : tie.Need-add-i Inv-loop μ-loop
 add-i c = search needs
@@ -30,6 +24,24 @@ loop-less c = search needs
 
 loop-again : tie.Need-loop-again Inv-loop μ-loop
 loop-again c = search needs
+
+has-requires-2 : tie.Need-has-requires-2 Inv-loop μ-loop
+has-requires-2 c κs = search needs
+
+hold-requires : tie.Need-hold-requires Inv-loop μ-loop
+hold-requires c κs = search needs
+
+add-told : tie.Need-add-told Inv-loop μ-loop
+add-told c = search needs
+
+add-i-2 : tie.Need-add-i-2 Inv-loop μ-loop
+add-i-2 c = search needs
+
+loop-less-2 : tie.Need-loop-less-2 Inv-loop μ-loop
+loop-less-2 c = search needs
+
+loop-again-2 : tie.Need-loop-again-2 Inv-loop μ-loop
+loop-again-2 c = search needs
 
 text-requires : tie.Need-text-requires Inv-loop μ-loop
 text-requires c κs = search needs
@@ -48,11 +60,15 @@ holds-spec =
     μ-loop
     loop-holds
     has-requires
-    has-requires-2
-    hold-requires
     add-i
     loop-less
     loop-again
+    has-requires-2
+    hold-requires
+    add-told
+    add-i-2
+    loop-less-2
+    loop-again-2
     text-requires
     returns
     returns-2)

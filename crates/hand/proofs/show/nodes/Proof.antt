@@ -5,10 +5,10 @@ use Rattle.hand.proofs.show.nodes.Statement.{statement}
 use Rattle.hand.proofs.show.nodes.Tie as tie
 
 abbrev Inv-loop : tie.InvT-loop
-Inv-loop b n i₀ t4 t5 i = i ≤ 8
+Inv-loop b n i₀ i = i ≤ 8
 
 abbrev μ-loop : tie.MeasureT-loop
-μ-loop b n i₀ t4 t5 i = 8 - i
+μ-loop b n i₀ i = 8 - i
 
 wide-requires : tie.Need-wide-requires Inv-loop μ-loop
 wide-requires c κs = search needs
@@ -16,26 +16,8 @@ wide-requires c κs = search needs
 loop-holds : tie.Need-loop-holds Inv-loop μ-loop
 loop-holds c = search needs
 
-slice-aggregate-text : tie.Need-slice-aggregate-text Inv-loop μ-loop
-slice-aggregate-text c = search needs
-
-text-requires : tie.Need-text-requires Inv-loop μ-loop
-text-requires c κs = search needs
-
-number-requires : tie.Need-number-requires Inv-loop μ-loop
-number-requires c κs = search needs
-
-slice-aggregate-text-2 : tie.Need-slice-aggregate-text-2 Inv-loop μ-loop
-slice-aggregate-text-2 c = search needs
-
-text-requires-2 : tie.Need-text-requires-2 Inv-loop μ-loop
-text-requires-2 c κs = search needs
-
-processes-of-requires : tie.Need-processes-of-requires Inv-loop μ-loop
-processes-of-requires c κs = search needs
-
-objects-of-requires : tie.Need-objects-of-requires Inv-loop μ-loop
-objects-of-requires c κs = search needs
+node-requires : tie.Need-node-requires Inv-loop μ-loop
+node-requires c κs = search needs
 
 add-i : tie.Need-add-i Inv-loop μ-loop
 add-i c = search needs
@@ -57,13 +39,7 @@ nodes-spec =
     μ-loop
     wide-requires
     loop-holds
-    slice-aggregate-text
-    text-requires
-    number-requires
-    slice-aggregate-text-2
-    text-requires-2
-    processes-of-requires
-    objects-of-requires
+    node-requires
     add-i
     loop-less
     loop-again

@@ -5,10 +5,10 @@ use Rattle.hand.proofs.show.objects_of.Statement.{statement}
 use Rattle.hand.proofs.show.objects_of.Tie as tie
 
 abbrev Inv-loop : tie.InvT-loop
-Inv-loop node b n i₀ i = i ≤ 16
+Inv-loop node b n some₀ i₀ some i = i ≤ 16
 
 abbrev μ-loop : tie.MeasureT-loop
-μ-loop node b n i₀ i = 16 - i
+μ-loop node b n some₀ i₀ some i = 16 - i
 
 wide-requires : tie.Need-wide-requires Inv-loop μ-loop
 wide-requires c κs = search needs

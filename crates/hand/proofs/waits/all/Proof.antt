@@ -22,11 +22,14 @@ text-requires c κs = search needs
 loop-holds : tie.Need-loop-holds Inv-loop μ-loop
 loop-holds c = search needs
 
+element-copy-out-in-line : tie.Need-element-copy-out-in-line Inv-loop μ-loop
+element-copy-out-in-line c = search needs
+
 mul-in-line : tie.Need-mul-in-line Inv-loop μ-loop
 mul-in-line c = search needs
 
-element-copy-out-in-line : tie.Need-element-copy-out-in-line Inv-loop μ-loop
-element-copy-out-in-line c = search needs
+element-copy-out-in-line-2 : tie.Need-element-copy-out-in-line-2 Inv-loop μ-loop
+element-copy-out-in-line-2 c = search needs
 
 in-line-requires : tie.Need-in-line-requires Inv-loop μ-loop
 in-line-requires c κs = search needs
@@ -53,8 +56,9 @@ all-spec =
     slice-aggregate-text
     text-requires
     loop-holds
-    mul-in-line
     element-copy-out-in-line
+    mul-in-line
+    element-copy-out-in-line-2
     in-line-requires
     add-i
     loop-less

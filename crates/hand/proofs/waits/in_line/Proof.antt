@@ -5,19 +5,25 @@ use Rattle.hand.proofs.waits.in_line.Statement.{statement}
 use Rattle.hand.proofs.waits.in_line.Tie as tie
 
 abbrev Inv-loop : tie.InvT-loop
-Inv-loop number o n k₀ k = k ≤ 16
+Inv-loop number home o n k₀ k = k ≤ 16
 
 abbrev μ-loop : tie.MeasureT-loop
-μ-loop number o n k₀ k = 16 - k
+μ-loop number home o n k₀ k = 16 - k
 
 wide-requires : tie.Need-wide-requires Inv-loop μ-loop
 wide-requires c κs = search needs
 
+returns : tie.Need-returns Inv-loop μ-loop
+returns c = search needs
+
+heading-requires : tie.Need-heading-requires Inv-loop μ-loop
+heading-requires c κs = search needs
+
 loop-holds : tie.Need-loop-holds Inv-loop μ-loop
 loop-holds c = search needs
 
-element-copy-out-t11 : tie.Need-element-copy-out-t11 Inv-loop μ-loop
-element-copy-out-t11 c = search needs
+element-copy-out-t14 : tie.Need-element-copy-out-t14 Inv-loop μ-loop
+element-copy-out-t14 c = search needs
 
 has-requires : tie.Need-has-requires Inv-loop μ-loop
 has-requires c κs = search needs
@@ -37,8 +43,8 @@ loop-less c = search needs
 loop-again : tie.Need-loop-again Inv-loop μ-loop
 loop-again c = search needs
 
-returns : tie.Need-returns Inv-loop μ-loop
-returns c = search needs
+returns-2 : tie.Need-returns-2 Inv-loop μ-loop
+returns-2 c = search needs
 
 pub in-line-spec : {M : Type 1} → statement M
 in-line-spec =
@@ -47,12 +53,14 @@ in-line-spec =
     Inv-loop
     μ-loop
     wide-requires
+    returns
+    heading-requires
     loop-holds
-    element-copy-out-t11
+    element-copy-out-t14
     has-requires
     holders-requires
     ahead-requires
     add-k
     loop-less
     loop-again
-    returns)
+    returns-2)

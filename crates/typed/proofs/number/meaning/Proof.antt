@@ -1,35 +1,27 @@
--- `typed::number::meaning` meets its contract: a mode's name comes first. Assumes nothing.
-use mathlib.Core.Path.{_∙_}
+-- `typed::number::meaning` meets its contract: the test is that of the definition. Assumes nothing.
+use mathlib.Core.Path.{sym, _∙_}
 use borrow.Author.Needs.{needs}
-use Rattle.typed.proofs.Decimals.{mode-named, mode-not}
+use Rattle.typed.specs.Numbers.{meaning}
 use Rattle.typed.proofs.number.meaning.Statement.{statement}
 use Rattle.typed.proofs.number.meaning.Tie as tie
 
-slice-aggregate-place-in : tie.Need-slice-aggregate-place-in
-slice-aggregate-place-in c = search needs
+asks-mode-requires : tie.Need-asks-mode-requires
+asks-mode-requires c κs = search needs
 
-place-in-requires : tie.Need-place-in-requires
-place-in-requires c κs = search needs
-
-cast-t8 : tie.Need-cast-t8
-cast-t8 c = search needs
+mode-requires : tie.Need-mode-requires
+mode-requires c κs = search needs
 
 returns : tie.Need-returns
-returns c = mode-named _ _ (c .before .place-in .ensures) (c .if1 .taken)
+unfolding meaning
+returns c = rw (sym (c .before .before .asks-mode .ensures) ∙ c .before .if1 .taken) (c .mode .ensures)
 
 decimal-requires : tie.Need-decimal-requires
 decimal-requires c κs = search needs
 
 returns-2 : tie.Need-returns-2
-returns-2 c = c .decimal .ensures ∙ mode-not _ _ (c .before .before .place-in .ensures) (c .before .if1 .left)
+unfolding meaning
+returns-2 c = rw (sym (c .before .before .asks-mode .ensures) ∙ c .before .if1 .left) (c .decimal .ensures)
 
 pub meaning-spec : {M : Type 1} → statement M
 meaning-spec =
-    tie.close
-    (tie.spec
-    slice-aggregate-place-in
-    place-in-requires
-    cast-t8
-    returns
-    decimal-requires
-    returns-2)
+    tie.close (tie.spec asks-mode-requires mode-requires returns decimal-requires returns-2)
