@@ -1,5 +1,6 @@
 //! Document 01's cases: the run in full, both sides of each limit, and the readings of its open points.
 
+use crate::bench;
 use crate::board::{answer::*, Board, List, Message, Mode, Process, Wait};
 use crate::make::{self, Kind};
 use crate::random::Random;
@@ -431,19 +432,21 @@ fn made_sheets_are_of_their_kinds() {
     for (name, kind) in make::KINDS {
         let mut seen = [0; 19];
         let mut rings = 0;
-        for _ in 0..300 {
-            let sheet = make::sheet(&mut random, kind);
-            match run(&sheet, &mut room) {
+        let sheets: Vec<_> = (0..300).map(|_| make::sheet(&mut random, kind)).collect();
+        for sheet in &sheets {
+            match run(sheet, &mut room) {
                 Ok(board) => rings += board.tally(),
                 Err(refusal) => seen[refusal as usize] += 1,
             }
-            let answers = &room[..commands_part(&sheet).len() / 2];
+            let answers = &room[..commands_part(sheet).len() / 2];
             answers.iter().for_each(|&answer| seen[answer as usize] += 1);
         }
+        let contents = bench::contents(&sheets);
         let refused: usize = seen[1..].iter().sum();
         match kind {
             Kind::Accepted => assert_eq!(refused, 0),
             Kind::Contended => assert!(refused == 0 && rings > 600, "{name} {rings}"),
+            Kind::Lists => assert!(refused == 0 && 2 * contents.long > contents.commands, "{contents:?}"),
             Kind::Refused => assert!(refused > 9 * seen[0], "{name} {seen:?}"),
             Kind::Flooded => assert!(seen[10] > 100, "{name} {seen:?}"),
             Kind::Mixed => assert!([3, 4, 6, 7, 8, 9, 11].iter().all(|&n| seen[n] > 0), "{seen:?}"),

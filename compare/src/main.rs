@@ -1,5 +1,6 @@
-//! Sub-commands over a plain board: print, make, against, walk, hex, unhex, bench.
+//! Sub-commands over a plain board: print, make, against, agree, walk, hex, unhex, bench, laps.
 
+mod agree;
 mod bench;
 mod board;
 #[cfg(test)]
@@ -7,6 +8,7 @@ mod cases;
 mod make;
 mod random;
 mod sheet;
+mod sides;
 #[cfg(test)]
 mod slow;
 mod walk;
@@ -20,13 +22,16 @@ const USAGE: &str = "usage:
   compare print                       < sheet
   compare make DIR COUNT SEED [KIND]
   compare against PROGRAM COUNT SEED [KIND]
+  compare agree COUNT SEED [KIND]
   compare walk STEPS SEED
   compare hex FILE
   compare unhex                       < hex text
   compare bench DIR
-KIND is accepted, contended, refused, mixed, flooded or damaged; left out, any of them.";
+  compare laps ours|plain PATH COUNT
+KIND is accepted, contended, lists, refused, mixed, flooded or damaged; left out, any of them.";
 
-/// How many differing sheets are kept.
+/// Where differing sheets are kept, and how many.
+const DIFFERENCES: &str = "differences";
 const MOST_KEPT: usize = 20;
 
 fn main() -> ExitCode {
@@ -38,10 +43,15 @@ fn main() -> ExitCode {
         ["make", dir, count, seed, kind] => make(dir, count, seed, Some(kind)),
         ["against", program, count, seed] => against(program, count, seed, None),
         ["against", program, count, seed, kind] => against(program, count, seed, Some(kind)),
+        ["agree", count, seed] => agree(count, seed, None),
+        ["agree", count, seed, kind] => agree(count, seed, Some(kind)),
         ["walk", steps, seed] => walk(steps, seed),
         ["hex", file] => hex(file),
         ["unhex"] => unhex(),
         ["bench", dir] => bench::bench(Path::new(dir)),
+        ["laps", side, path, count] => {
+            number(count).and_then(|count| bench::laps(side, Path::new(path), count))
+        }
         _ => Err(USAGE.to_string()),
     };
     match done {
@@ -114,33 +124,62 @@ fn printed_by(program: &Path, bytes: &[u8]) -> io::Result<(Vec<u8>, bool)> {
 
 fn against(program: &str, count: &str, seed: &str, kind: Option<&str>) -> Result<(), String> {
     let program = told(PathBuf::from(program).canonicalize(), program)?;
-    let kept = Path::new("differences");
     let (mut run, mut refused, mut different) = (0, 0, 0);
     for bytes in sheets(number(count)?, number(seed)?, kind)? {
-        let ours = sheet::print(&bytes);
-        let (theirs, ended) = told(printed_by(&program, &bytes), "running the program")?;
+        let plain = sheet::print(&bytes);
+        let (ours, ended) = told(printed_by(&program, &bytes), "running the program")?;
         run += 1;
-        refused += usize::from(ours.starts_with("sheet"));
-        if ended && theirs == ours.as_bytes() {
-            continue;
+        refused += usize::from(plain.starts_with("sheet"));
+        if !ended || ours != plain.as_bytes() {
+            told(keep(different, &bytes, &ours, plain.as_bytes()), DIFFERENCES)?;
+            different += 1;
         }
-        if different < MOST_KEPT {
-            told(keep(kept, different, &bytes, ours.as_bytes(), &theirs), "differences")?;
-        }
-        different += 1;
     }
     println!("sheets {run} (of them refused {refused}) differences {different}");
+    none_differ(different)
+}
+
+/// The proved library and the plain board in this process, which is much faster than running a program.
+fn agree(count: &str, seed: &str, kind: Option<&str>) -> Result<(), String> {
+    let ours = sides::ours()?;
+    let seed = number(seed)?;
+    let mut rooms = Random::new(!seed);
+    let (mut run, mut commands, mut different) = (0, 0, 0);
+    let mut answered = [0; 256];
+    for bytes in sheets(number(count)?, seed, kind)? {
+        let both = agree::both(ours, &bytes, &mut rooms);
+        run += 1;
+        commands += both.commands;
+        answered[usize::from(both.plain.answer)] += 1;
+        if both.ours != both.plain {
+            told(keep(different, &bytes, &both.ours.bytes(), &both.plain.bytes()), DIFFERENCES)?;
+            different += 1;
+        }
+    }
+    println!("sheets {run} with {commands} commands, differences {different}");
+    for (answer, sheets) in answered.iter().enumerate().filter(|(_, &sheets)| sheets != 0) {
+        println!("answer {answer}: {sheets} sheets");
+    }
+    none_differ(different)
+}
+
+fn none_differ(different: usize) -> Result<(), String> {
     match different {
         0 => Ok(()),
-        _ => Err("the first differing sheets are kept in differences/".to_string()),
+        _ => Err(format!("the first differing sheets are kept in {DIFFERENCES}/")),
     }
 }
 
-fn keep(dir: &Path, place: usize, bytes: &[u8], ours: &[u8], theirs: &[u8]) -> io::Result<()> {
+/// Keeps a differing sheet, and what each side made of it, if it is one of the first.
+fn keep(place: usize, bytes: &[u8], ours: &[u8], plain: &[u8]) -> io::Result<()> {
+    if place >= MOST_KEPT {
+        return Ok(());
+    }
+    let dir = Path::new(DIFFERENCES);
     std::fs::create_dir_all(dir)?;
     std::fs::write(dir.join(format!("{place:05}.sheet")), bytes)?;
     std::fs::write(dir.join(format!("{place:05}.ours")), ours)?;
-    std::fs::write(dir.join(format!("{place:05}.theirs")), theirs)
+    std::fs::write(dir.join(format!("{place:05}.plain")), plain)
 }
 
 fn walk(steps: &str, seed: &str) -> Result<(), String> {

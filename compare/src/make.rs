@@ -213,6 +213,8 @@ pub enum Kind {
     Accepted,
     /// Long lines, long lists and rings.
     Contended,
+    /// Long lists, most of the commands their deliveries.
+    Lists,
     /// Random commands.
     Refused,
     /// Any opening, any style.
@@ -223,9 +225,10 @@ pub enum Kind {
     Damaged,
 }
 
-pub const KINDS: [(&str, Kind); 6] = [
+pub const KINDS: [(&str, Kind); 7] = [
     ("accepted", Kind::Accepted),
     ("contended", Kind::Contended),
+    ("lists", Kind::Lists),
     ("refused", Kind::Refused),
     ("mixed", Kind::Mixed),
     ("flooded", Kind::Flooded),
@@ -240,6 +243,7 @@ pub fn sheet(random: &mut Random, kind: Kind) -> Vec<u8> {
     match kind {
         Kind::Accepted => accepted(random).packed(),
         Kind::Contended => contended(random).packed(),
+        Kind::Lists => lists(random).packed(),
         Kind::Refused => refused(random).packed(),
         Kind::Mixed => mixed(random).packed(),
         Kind::Flooded => flooded(random).packed(),
@@ -326,6 +330,28 @@ fn crowd(random: &mut Random, nodes: u8, processes: u8) -> Draft {
         order: any_order(random),
     };
     draft.add_in_style(random, &style, MOST_COMMANDS);
+    draft
+}
+
+/// A few share an object and all others ask for it. A list starts with the holders and those who
+/// stand ahead, and asks each of them. At last a holder asks for what one of the others holds.
+fn lists(random: &mut Random) -> Draft {
+    let (nodes, processes) = (random.between(1, 8) as u8, random.between(12, 16) as u8);
+    let mut draft = Draft::new(opening_of(random, nodes, processes, 2));
+    let sharing = random.between(1, 8) as u8;
+    for process in 0..sharing {
+        draft.add(Command::Request { process, object: 0, mode: 0 });
+    }
+    let other = random.between(sharing.into(), processes as usize - 1) as u8;
+    draft.add(Command::Request { process: other, object: 1, mode: 1 });
+    draft.deliver_all(random, Order::Lowest);
+    for process in sharing..processes {
+        draft.add(Command::Request { process, object: 0, mode: u8::from(random.percent(90)) });
+    }
+    let order = any_order(random);
+    draft.deliver_all(random, order);
+    draft.add(Command::Request { process: 0, object: 1, mode: 1 });
+    draft.deliver_all(random, order);
     draft
 }
 
