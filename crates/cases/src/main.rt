@@ -1,58 +1,6 @@
-// Runs the sheets that the file `names` lists, one name to a line, and prints under each name what `board` prints for that sheet.
-ghost use Prim.Native.Nat.{_<_, _≤_};
-ghost use lib.ListN.{length};
-
-// A file of more than 65,536 bytes would be cut there; no sheet here is that long.
-fn case(name: &[u8]) {
-    io::write_all(libc::STDOUT_FILENO, b"== ");
-    io::write_all(libc::STDOUT_FILENO, name);
-    io::write_all(libc::STDOUT_FILENO, b"\n");
-    let fd = os::open_read(name);
-    if fd < 0 {
-        os::fail(name);
-        return;
-    }
-    let mut sheet = io::large_buffer();
-    let n = io::read_full(fd, &mut sheet);
-    libc::close(fd);
-    report::show(&sheet[..n], n);
-}
-
-// Where the line that starts at this place ends.
-fn line_end(names: &[u8], from: usize) -> usize
-    requires { ⌜ from < length (now names) ⌝ }
-    ensures { λ r. ⌜ (from ≤ r) × (r ≤ length (now (names .entry))) ⌝ }
-{
-    let mut to = from;
-    while to < names.len() {
-        if names[to] == b'\n' {
-            return to;
-        }
-        to += 1;
-    }
-    to
-}
-
-fn every_case(names: &[u8]) {
-    let mut from: usize = 0;
-    while from < names.len() {
-        let to = line_end(names, from);
-        case(&names[from..to]);
-        if to == names.len() {
-            return;
-        }
-        from = to + 1;
-    }
-}
+// Runs the sheets of data/ and prints under each name what `board` prints for that sheet.
+use listed::Way;
 
 fn main() {
-    let fd = os::open_read(b"names");
-    if fd < 0 {
-        os::fail(b"names");
-        return;
-    }
-    let mut names = io::large_buffer();
-    let n = io::read_full(fd, &mut names);
-    libc::close(fd);
-    every_case(&names[..n]);
+    listed::show(Way::AtOnce);
 }

@@ -2,6 +2,9 @@
 ghost use mathlib.Core.Path.{_≡_};
 ghost use lib.ListN.{take};
 
+use check::same;
+use rules::Ran;
+
 mod lines;
 mod text;
 
@@ -16,6 +19,11 @@ fn print(text: &[u8; 65536], n: usize) {
     io::write_all(libc::STDOUT_FILENO, start(text, n));
 }
 
+// The two texts are the same, byte for byte.
+fn same_text(one: &[u8; 65536], one_end: usize, other: &[u8; 65536], other_end: usize) -> bool {
+    same(start(one, one_end), start(other, other_end))
+}
+
 // Runs the sheet of which the first bytes are given, and the length of the whole, and prints what came of it on standard output. No sheet
 // that is accepted has more than 8,206 bytes, so 8,208 first bytes always do.
 pub fn show(first: &[u8], whole: usize) {
@@ -25,4 +33,16 @@ pub fn show(first: &[u8], whole: usize) {
     let mut out = io::large_buffer();
     let end = lines::report(&mut out, ran, &room);
     print(&out, end);
+}
+
+// For a sheet that was run in two ways: prints what came of the second, and a line if the first would print something else.
+pub fn show_both(first: Ran, first_room: &[u8; 4096], second: Ran, second_room: &[u8; 4096]) {
+    let mut one = io::large_buffer();
+    let one_end = lines::report(&mut one, first, first_room);
+    let mut other = io::large_buffer();
+    let other_end = lines::report(&mut other, second, second_room);
+    print(&other, other_end);
+    if !same_text(&one, one_end, &other, other_end) {
+        io::write_all(libc::STDOUT_FILENO, b"the two ways differ\n");
+    }
 }

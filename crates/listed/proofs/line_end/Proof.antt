@@ -1,9 +1,9 @@
--- `cases::line_end` is safe and meets its contract: the place rises and stays within the names. Assumes nothing.
+-- `listed::line_end` is safe and meets its contract: the place rises and stays within the names. Assumes nothing.
 use Prim.Native.Nat.{_-_, _≤_}
 use lib.ListN.{length}
 use borrow.Author.Needs.{needs}
-use Rattle.cases.proofs.line_end.Statement.{statement}
-use Rattle.cases.proofs.line_end.Tie as tie
+use Rattle.listed.proofs.line_end.Statement.{statement}
+use Rattle.listed.proofs.line_end.Tie as tie
 
 abbrev Inv-loop : tie.InvT-loop
 Inv-loop names from to₀ to = (from ≤ to) × (to ≤ length names)

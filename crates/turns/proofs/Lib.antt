@@ -1,0 +1,4 @@
+-- Laws that the proofs share.
+pub mod ByKind
+pub mod OneMore
+pub mod Shorter
