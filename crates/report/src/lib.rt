@@ -1,7 +1,7 @@
 // Runs a packed sheet and prints each command's answer, the objects, the rings and the counts. What a program prints for a sheet is here alone.
 ghost use mathlib.Core.Path.{_≡_};
+ghost use mathlib.Core.Bool.{true};
 ghost use lib.ListN.{take};
-
 use check::same;
 use rules::Ran;
 
@@ -20,7 +20,9 @@ fn print(text: &[u8; 65536], n: usize) {
 }
 
 // The two texts are the same, byte for byte.
-fn same_text(one: &[u8; 65536], one_end: usize, other: &[u8; 65536], other_end: usize) -> bool {
+fn same_text(one: &[u8; 65536], one_end: usize, other: &[u8; 65536], other_end: usize) -> bool
+    ensures { λ r. ⌜ (r ≡ true → take «one_end» (now (one .entry)) ≡ take «other_end» (now (other .entry))) × (take «one_end» (now (one .entry)) ≡ take «other_end» (now (other .entry)) → r ≡ true) ⌝ }
+{
     same(start(one, one_end), start(other, other_end))
 }
 

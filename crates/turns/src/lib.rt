@@ -1,7 +1,7 @@
 // Runs a sheet command by command, each by a call of its own, in two ways: by value, and in the room that the board's owner lends. Both
 // are one result; what came of the second is printed, and a line if ever the first would print something else.
 ghost use mathlib.Core.Path.{_≡_};
-ghost use Prim.Native.Nat.{_*_, _≤_};
+ghost use Prim.Native.Nat.{_*_, _/_, _≤_, min};
 ghost use lib.ListN.{length};
 ghost use Rattle.rules.specs.Shape as Rules;
 ghost use Rattle.turns.specs.Turns.{boardBySteps, roomBySteps};
@@ -42,7 +42,7 @@ fn steps(opened: Board, part: &[u8], n: usize, lent: bool, room: &mut [u8; 4096]
 
 // How many commands a part holds; no part of a sheet holds more than 4,096.
 fn count(part: &[u8]) -> usize
-    ensures { λ r. ⌜ (r ≤ 4096) × (2 * r ≤ length (now (part .entry))) ⌝ }
+    ensures { λ r. ⌜ r ≡ min (length (now (part .entry)) / 2) 4096 ⌝ }
 {
     let n = part.len() / 2;
     if n <= 4096 { n } else { 4096 }
