@@ -22,9 +22,9 @@ for folder in "$1" "$1"/*/; do
     read -r _ sheets _ commands < <("$program" laps ours "$folder" 0)
     ours=$(in_four_laps ours "$folder")
     plain=$(in_four_laps plain "$folder")
-    awk -v name="$(basename "$folder")" -v sheets="$sheets" -v commands="$commands" -v ours="$ours" -v plain="$plain" 'BEGIN {
-        per = commands ? 4 * commands : 0
-        if (!per) { printf "%-14s %6d %8d %9s %8s %6.2f\n", name, sheets, commands, "-", "-", ours / plain; exit }
-        printf "%-14s %6d %8d %9.1f %8.1f %6.2f\n", name, sheets, commands, ours / per, plain / per, ours / plain
-    }'
+    awk -v name="$(basename "$folder")" -v sheets="$sheets" -v commands="$commands" -v ours="$ours" -v plain="$plain" '
+        function per_command(count) { return commands ? sprintf("%.1f", count / 4 / commands) : "-" }
+        BEGIN {
+            printf "%-14s %6d %8d %9s %8s %6.2f\n", name, sheets, commands, per_command(ours), per_command(plain), ours / plain
+        }'
 done

@@ -1,4 +1,4 @@
 -- Laws that the proofs share.
 pub mod ByKind
-pub mod OneMore
+pub mod Reaching
 pub mod Shorter

@@ -1,10 +1,10 @@
 // Runs a sheet command by command, each by a call of its own, in two ways: by value, and in the room that the board's owner lends. Both
 // are one result; what came of the second is printed, and a line if ever the first would print something else.
 ghost use mathlib.Core.Path.{_≡_};
-ghost use Prim.Native.Nat.{_*_, _/_, _≤_, min};
+ghost use Prim.Native.Nat.{_*_, _≤_};
 ghost use lib.ListN.{length};
 ghost use Rattle.rules.specs.Shape as Rules;
-ghost use Rattle.turns.specs.Turns.{boardBySteps, roomBySteps};
+ghost use Rattle.turns.specs.Turns.{boardBySteps, roomBySteps, commandsOf, bySteps};
 use crate::command::command_at;
 use rules::Board;
 use rules::Command;
@@ -42,14 +42,16 @@ fn steps(opened: Board, part: &[u8], n: usize, lent: bool, room: &mut [u8; 4096]
 
 // How many commands a part holds; no part of a sheet holds more than 4,096.
 fn count(part: &[u8]) -> usize
-    ensures { λ r. ⌜ r ≡ min (length (now (part .entry)) / 2) 4096 ⌝ }
+    ensures { λ r. ⌜ r ≡ commandsOf (now (part .entry)) ⌝ }
 {
     let n = part.len() / 2;
     if n <= 4096 { n } else { 4096 }
 }
 
 // The sheet without its commands opens the board. Of a refused sheet no part is handed back, and the whole of it is refused again.
-fn run(s: &[u8], lent: bool, room: &mut [u8; 4096]) -> Ran {
+fn run(s: &[u8], lent: bool, room: &mut [u8; 4096]) -> Ran
+    ensures { λ r. ⌜ (r ≡ bySteps (now (s .entry)) (now (room .entry)) .ran) × (now (room .exit) ≡ bySteps (now (s .entry)) (now (room .entry)) .room) ⌝ }
+{
     let part = sheet::commands(s);
     let n = count(part);
     let start = s.len() - part.len();

@@ -1,9 +1,10 @@
--- `turns::run` is safe: the part of the commands is no longer than the sheet. Assumes nothing.
+-- `turns::run` meets its contract: the sheet without its commands opens the board, and the commands are stepped on it. Assumes nothing.
 use mathlib.Core.Path.{sym}
 use native.Mathlib.Omega.{arith}
 use lib.Seq.{length-take-le}
 use borrow.Author.Needs.{needs}
 use Rattle.turns.proofs.Shorter.{part-shorter}
+use Rattle.turns.proofs.Reaching.{whole-sheet}
 use Rattle.turns.proofs.run.Statement.{statement}
 use Rattle.turns.proofs.run.Tie as tie
 
@@ -29,7 +30,11 @@ steps-requires : tie.Need-steps-requires
 steps-requires c κs = search needs
 
 returns : tie.Need-returns
-returns c = search needs
+returns c =
+    let opened = c .before .before .before .before in
+    let counted = opened .before .before .before in
+    let a = counted .before .before .before .args in
+    whole-sheet (a .s .now) (a .room .now) (counted .before .commands .ensures) (counted .count .ensures) (opened .run .ensures .0) (c .steps .ensures)
 
 pub run-spec : {M : Type 1} → statement M
 run-spec =

@@ -3,7 +3,7 @@ use mathlib.Core.Path.{refl}
 use Prim.Native.Nat.{_-_, _≤_}
 use borrow.Author.Needs.{needs}
 use Rattle.turns.specs.Turns.{boardBySteps, roomBySteps}
-use Rattle.turns.proofs.OneMore.{Reached, one-more, at-last}
+use Rattle.turns.proofs.Reaching.{Reached, one-more, at-last}
 use Rattle.turns.proofs.steps.Statement.{statement}
 use Rattle.turns.proofs.steps.Tie as tie
 
