@@ -120,21 +120,21 @@ fn same_work(batch: &Batch, ours: Side) -> Result<(), String> {
 /// so that both meet the same noise.
 fn best(sheets: &[Vec<u8>], sides: &[Side]) -> Vec<f64> {
     let mut best = vec![f64::INFINITY; sides.len()];
+    let mut room = [0; MOST_COMMANDS];
     for _ in 0..ROUNDS {
         for (side, best) in sides.iter().zip(&mut best) {
             let start = Instant::now();
-            lap(sheets, *side);
+            lap(sheets, *side, &mut room);
             *best = best.min(start.elapsed().as_nanos() as f64);
         }
     }
     best
 }
 
-fn lap(sheets: &[Vec<u8>], side: Side) {
-    let mut room = [0; MOST_COMMANDS];
+fn lap(sheets: &[Vec<u8>], side: Side, room: &mut [u8]) {
     for bytes in sheets {
-        black_box(side(black_box(bytes), &mut room));
-        black_box(&room);
+        black_box(side(black_box(bytes), room));
+        black_box(&*room);
     }
 }
 
@@ -151,8 +151,9 @@ pub fn laps(side: &str, path: &Path, count: u64) -> Result<(), String> {
         false => std::fs::read(path).map(|bytes| vec![bytes]),
     };
     let sheets = sheets.map_err(|error| format!("{}: {error}", path.display()))?;
+    let mut room = [0; MOST_COMMANDS];
     for _ in 0..count {
-        lap(&sheets, side);
+        lap(&sheets, side, &mut room);
     }
     let commands: usize = sheets.iter().map(|bytes| sheet::commands_part(bytes).len() / 2).sum();
     println!("sheets {} commands {commands}", sheets.len());

@@ -1,5 +1,5 @@
 -- Board and room after one command more, after the last, and of the whole sheet. Assumes nothing.
-use mathlib.Core.Path.{_≡_, refl}
+use mathlib.Core.Path.{_≡_}
 use mathlib.Core.List.{List}
 use Prim.Native.Nat.{ℕ, _+_, _≤_}
 use native.Mathlib.Numerals.{add-one}
@@ -12,7 +12,7 @@ use Rattle.rules.specs.declared.Ran.{Ran}
 use Rattle.rules.specs.Answers.{number}
 use Rattle.rules.specs.Shape.{step}
 use Rattle.rules.specs.Sheet.{commandAt, commandsPart}
-use Rattle.turns.specs.Turns.{boardBySteps, roomBySteps, onOpened, openedBy, commandsOf, bySteps}
+use Rattle.turns.specs.Turns.{boardBySteps, roomBySteps, openedBy, commandsOf, bySteps}
 
 module _ (b₀ : Board) (s room₀ : List ℕ) where
   -- board and room are those after i commands
