@@ -1,5 +1,5 @@
 -- The public calls: the shape first, then the rule.
-use mathlib.Core.Path.{_≡_, _∙_}
+use mathlib.Core.Path.{_≡_, sym, ap, _∙_}
 use mathlib.Core.Logic.{_≢_}
 use mathlib.Core.Bool.{true, false}
 use mathlib.Core.List.{List}
@@ -9,13 +9,18 @@ use lib.ListN.{length}
 use Rattle.rules.specs.declared.Board.{Board}
 use Rattle.rules.specs.declared.Command.{Command}
 use Rattle.rules.specs.declared.Answer.{Answer}
-use Rattle.rules.specs.declared.Answer.the-variants.{OutOfShape, OddByte, RoomTooShort}
+use Rattle.rules.specs.declared.Answer.the-variants.{Done, OutOfShape, OddByte, RoomTooShort}
 use Rattle.rules.specs.declared.Stepped.{Stepped}
 use Rattle.rules.specs.declared.Drained.{Drained}
 use Rattle.rules.specs.Answers.{number, firstOf}
 use Rattle.rules.specs.Commands.{turn, draining, zeroBoard, emptyBoard, homesOf, openingTests, opening}
 use Rattle.rules.specs.Shape.{inShape, step, drain}
-use Rattle.rules.specs.Sheet.{refusedRun, wholeRun, run}
+use Rattle.rules.specs.Sheet.{refusedRun, wholeRun, run, runOpening}
+use Rattle.laws.proofs.Opening.{opening-in-shape}
+use Rattle.bench.specs.Packed.{answerOf}
+use Rattle.bench.specs.Ready.{Ready}
+use Rattle.bench.proofs.Ready.{shape-ready}
+use Rattle.bench.proofs.Packing.{answer-back}
 
 -- ---- one command
 pub step-refused : (b : Board) (c : Command) → inShape b ≡ false → _≡_ {A = Stepped} (record { answer = OutOfShape; board = b }) (step b c)
@@ -55,6 +60,27 @@ module _ (b : Board) (s room : List ℕ) where
       pub run-whole : length s / 2 ≤ length room → run b s room ≡ wholeRun b s room (length s / 2)
       unfolding run firstOf
       run-whole g = rw (e, ne-eqb (length s % 2) 1 f, le-ltb (length room) (length s / 2) g)
+
+-- ---- an opening and its commands
+module _ (n p o : ℕ) (hp ho : List ℕ) (r : Stepped) (e : r ≡ opening n p o hp ho) (k : ℕ) (g : k ≡ number (r .answer)) (s room : List ℕ) where
+  pub opening-ends : k ≢ 0 → runOpening n p o hp ho s room ≡ refusedRun (r .answer) (r .board) room
+  unfolding runOpening opening
+  opening-ends h = rw (e, ne-eqb (number (opening n p o hp ho .answer)) 0 (λ z. h (g ∙ rw e z)))
+
+  module _ (h : k ≡ 0) where
+    opened : r .answer ≡ Done
+    unfolding answerOf
+    opened = sym (answer-back (r .answer)) ∙ ap answerOf (sym g ∙ h)
+
+    pub opening-shaped : inShape (r .board) ≡ true
+    opening-shaped = rw e (opening-in-shape .inShape n p o hp ho (rw (← e) opened))
+
+    pub opening-ready : Ready (r .board)
+    opening-ready = shape-ready (r .board) (rw e (opening-in-shape .sized n p o hp ho)) opening-shaped
+
+    pub opening-runs : runOpening n p o hp ho s room ≡ run (r .board) s room
+    unfolding runOpening
+    opening-runs = rw (← e, opened)
 
 -- ---- the drain
 pub drain-refused : (b : Board) (n : ℕ) → inShape b ≡ false → _≡_ {A = Drained} (record { answer = OutOfShape; made = 0; board = b }) (drain b n)

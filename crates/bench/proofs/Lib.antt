@@ -2,6 +2,7 @@
 pub mod Ready
 pub mod Granting
 pub mod Sends
+pub mod Arrivals
 pub mod Releases
 pub mod Turns
 pub mod Working

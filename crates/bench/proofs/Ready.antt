@@ -26,7 +26,10 @@ use Rattle.rules.specs.Ranges.{Ranged}
 use Rattle.rules.proofs.Tables.{sum-bound}
 use Rattle.rules.proofs.Load.{Matched, matched-freed, matched-send, sized-send}
 use Rattle.laws.proofs.Tables.{by-pick}
+use Rattle.rules.specs.Shape.{inShape}
+use Rattle.laws.specs.Shape.{Sized}
 use Rattle.laws.proofs.Ranges.{turn-ranged}
+use Rattle.laws.proofs.Shape.{shape-said}
 use Rattle.bench.specs.Ready.{Ready}
 
 -- ---- the numbers in flight are those that hold a message
@@ -78,3 +81,7 @@ kind-load-most (ListToObject o) = omega arith
 pub load-most : (b : Board) → Ranged b → load b ≤ 384
 unfolding load
 load-most b r = omega (arith, sum-bound 64 (λ n. kindLoad (kindAt b n)) 2 (λ n _. kind-load-most (kindAt b n)), sum-bound 16 (λ o. objectAt b o .«line_count») 16 (λ o _. r .lines o .count))
+
+-- ---- a board in shape is ready; an opening is in shape
+pub shape-ready : (b : Board) → Sized b → inShape b ≡ true → Ready b
+shape-ready b s e = record { ranged = shape-said .ranged b s e; matched = shape-said .shaped b s e .records .flying }

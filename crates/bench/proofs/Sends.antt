@@ -1,5 +1,4 @@
--- A message that is sent takes the lowest free number: what the engine writes, by what it found. And what a delivery makes, by the
--- kind of the message, on the board whose number is freed.
+-- A message that is sent takes the lowest free number: what the engine writes, by what it found, and its load.
 use mathlib.Core.Path.{_≡_, refl, sym, ap, _∙_}
 use mathlib.Core.Logic.{_≢_}
 use mathlib.Core.Bool.{Bool, true, false}
@@ -104,28 +103,16 @@ module _ (y : Board) (o : ℕ) (x : Object) (h : o < 16) (z : length (y .objects
   object-load : load (putObject y o x) + objectAt y o .«line_count» ≡ w + x .«line_count»
   object-load = omega (arith, load-object y o x h (omega arith))
 
+  -- the line is as long as before
+  pub same-line : x .«line_count» ≡ objectAt y o .«line_count» → w ≡ load (putObject y o x)
+  same-line e = omega (arith, object-load, e)
+
   module _ (old new : ℕ) (eo : old ≡ objectAt y o .«line_count») (en : new ≡ x .«line_count») where
     pub object-fits : old ≤ w + new
     object-fits = omega (arith, object-load)
 
     pub object-weight : w + new - old ≡ load (putObject y o x)
     object-weight = omega (arith, object-load)
-
--- a list that found a ring ends
-sent-nothing : (l : Entries) (o : Object) → listAtObject l o .ring .count ≢ 0 → listAtObject l o .sent ≡ nothing
-unfolding listAtObject
-sent-nothing l o = go (ltb k (o .«line_count»)) (among (starterOf l) qs)
-  where
-    k : ℕ
-    k = placeIn o (askedOf l)
-
-    qs : List ℕ
-    qs = waitedFor o (askedOf l) (modeAt o k) k
-
-    go : (t u : Bool) → pick t (looking u l qs) (record { sent = entryDone l; ring = noRing }) .ring .count ≢ 0 → pick t (looking u l qs) (record { sent = entryDone l; ring = noRing }) .sent ≡ nothing
-    go true true z = refl
-    go true false z = absurd (z refl)
-    go false u z = absurd (z refl)
 
 -- ---- the board without message n, as the code writes it
 pub freed-from : (b : Board) (n i occ : ℕ) (none : Entries) → i ≡ n → occ ≡ withoutBit (b .occupied) n → none ≡ noEntries
@@ -134,51 +121,3 @@ freed-from b n i occ none ei eo ez = rw (ei, eo, ez)
 
 pub same-matched : (x y : Board) → x ≡ y → Matched y → Matched x
 same-matched x y e h = rw e h
-
--- ---- a delivery: y is the board on which its number is freed
-module _ (b : Board) (n : ℕ) (y : Board) (e : y ≡ freed b n) where
-  pub nothing-arrives : kindAt b n ≡ Free → y ≡ delivered b n
-  unfolding delivered
-  nothing-arrives k = rw k e
-
-  pub grant-arrives : (p o : ℕ) (m : Mode) → kindAt b n ≡ Grant p o m → (i : ℕ) (old new : Process) → i ≡ p → old ≡ processAt b p → new ≡ granted old o m
-      → putProcess y i new ≡ delivered b n
-  unfolding delivered
-  grant-arrives p o m k i old new ei eo en = rw (k, ei, en, eo, e)
-
-  pub request-arrives : (p o : ℕ) (m : Mode) → kindAt b n ≡ Request p o m → (i : ℕ) (old : Object) (r : Arrived) → i ≡ o → old ≡ objectAt b o → r ≡ requestArrives old p o m
-      → send (putObject y i (r .object)) (r .sent) ≡ delivered b n
-  unfolding delivered
-  request-arrives p o m k i old r ei eo er = rw (k, ei, er, eo, e)
-
-  pub release-arrives : (p o : ℕ) → kindAt b n ≡ Release p o → (i : ℕ) (old new : Object) → i ≡ o → old ≡ objectAt b o → new ≡ struck old p → o < length (y .objects)
-      → grantsLeft (putObject y i new) i ≡ delivered b n
-  unfolding delivered releaseArrives
-  release-arrives p o k i old new ei eo en h = rw (ei, en, eo) (grants-from y o (struck (objectAt b o) p) h ∙ rw (k, e))
-
-  module _ (l : Entries) (el : l ≡ listAt b n) where
-    pub list-at-home : kindAt b n ≡ ListToHome → (p : ℕ) (book : Process) (m : Message) → p ≡ askedOf l → book ≡ processAt b p → m ≡ listAtHome l (book .wait)
-        → send y m ≡ delivered b n
-    unfolding delivered
-    list-at-home k p book m ep eb em = rw (k, em, eb, ep, el, e)
-
-    module _ (o : ℕ) (k : kindAt b n ≡ ListToObject o) (old : Object) (r : Looked) (eo : old ≡ objectAt b o) (er : r ≡ listAtObject l old) where
-      pub list-at-object : send (recording y (starterOf l) (r .ring)) (r .sent) ≡ delivered b n
-      unfolding delivered
-      list-at-object = rw (k, er, eo, el, e)
-
-      -- no ring was found: the list goes on or ends
-      pub no-ring : r .ring .count ≡ 0 → send y (r .sent) ≡ delivered b n
-      unfolding recording
-      no-ring z = rw z at list-at-object
-
-      -- a ring was found: it is kept in the starter's place, and the list ends
-      pub ring-found : (s : ℕ) (kept old′ : Ring) → r .ring .count ≢ 0 → s ≡ starterOf l → old′ ≡ ringAt b s → kept ≡ keeping old′ (r .ring) → putRing y s kept ≡ delivered b n
-      unfolding recording
-      ring-found s kept old′ z es eo′ ek = put ∙ sends-none (recording y (starterOf l) (r .ring)) (r .sent) ends ∙ list-at-object
-        where
-          ends : isMessage (r .sent .kind) ≡ false
-          ends = rw er (rw (sent-nothing l old (λ h. z (rw er h))))
-
-          put : putRing y s kept ≡ recording y (starterOf l) (r .ring)
-          put = rw (ne-eqb (r .ring .count) 0 z, ek, eo′, es, e)

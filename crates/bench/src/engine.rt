@@ -89,18 +89,28 @@ pub fn turns(start: Board, s: &[u8], lowest: bool, most: usize, room: &mut [u8])
                     Kind::Request(q, x, mode) => {
                         let xi = wide(x);
                         let old = b.objects[xi];
-                        let r = books::object::request_arrives(old, q, x, mode);
-                        let book = r.object;
-                        b.objects[xi] = book;
-                        weight = weight + wide(book.line_count) - wide(old.line_count);
-                        let sent = r.sent;
-                        let out = sent.kind;
+                        if books::object::is_welcome(old, q, mode) {
+                            let held = books::object::hold(old, q, mode);
+                            b.objects[xi] = held;
+                            weight += 1;
+                            let flight = Flight {
+                                kind: Kind::Grant(q, x, mode),
+                            };
+                            b.flights[to] = flight;
+                            b.lists[to] = none;
+                            b.occupied = books::bits::with(b.occupied, to as u8);
+                            continue;
+                        }
+                        let joined = books::object::join(old, q, mode);
+                        b.objects[xi] = joined;
+                        weight = weight + wide(joined.line_count) - wide(old.line_count);
+                        let entries = books::list::started(old, q, mode, old.line_count);
+                        let out = books::message::asks_next(entries.next, entries.count);
                         let more = crate::message::kind_load(out);
                         if more == 0 {
                             continue;
                         }
                         weight += more;
-                        let entries = sent.list;
                         let flight = Flight { kind: out };
                         b.flights[to] = flight;
                         b.lists[to] = entries;
@@ -139,14 +149,15 @@ pub fn turns(start: Board, s: &[u8], lowest: bool, most: usize, room: &mut [u8])
                         let qi = wide(crate::packed::asked_of(list));
                         let process = b.processes[qi];
                         let wait = process.wait;
-                        let sent = books::home::list_at_home(list, wait);
-                        let out = sent.kind;
+                        let onward = books::home::onward(list.next, list.count, wait);
+                        let out = onward.kind;
                         let more = crate::message::kind_load(out);
                         if more == 0 {
                             continue;
                         }
                         weight += more;
-                        let entries = sent.list;
+                        let mut entries = list;
+                        entries.next = onward.next;
                         let flight = Flight { kind: out };
                         b.flights[to] = flight;
                         b.lists[to] = entries;
@@ -154,23 +165,22 @@ pub fn turns(start: Board, s: &[u8], lowest: bool, most: usize, room: &mut [u8])
                         continue;
                     }
                     Kind::ListToObject(x) => {
-                        let xi = wide(x);
-                        let r = books::list::list_at_object(list, b.objects[xi]);
-                        let ring = r.ring;
-                        if ring.count != 0 {
-                            let si = wide(list.who[0]);
+                        let book = b.objects[wide(x)];
+                        let place = books::list::place_in(book, crate::packed::asked_of(list));
+                        if books::list::closes(list, book, place) {
+                            let si = wide(crate::packed::starter_of(list));
+                            let ring = books::list::along_leads(list, wide(list.next));
                             let kept = books::list::keeping(b.rings[si], ring);
                             b.rings[si] = kept;
                             continue;
                         }
-                        let sent = r.sent;
-                        let out = sent.kind;
+                        let entries = books::list::grown(list, book, place);
+                        let out = books::message::asks_next(entries.next, entries.count);
                         let more = crate::message::kind_load(out);
                         if more == 0 {
                             continue;
                         }
                         weight += more;
-                        let entries = sent.list;
                         let flight = Flight { kind: out };
                         b.flights[to] = flight;
                         b.lists[to] = entries;

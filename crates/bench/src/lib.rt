@@ -1,6 +1,7 @@
 // The board: an opening, the commands one by one, many at once, and the drain. Each is equal to its rule, on every board and for all
 // numbers. The shape of the board is asked once for each call.
 ghost use mathlib.Core.Path.{_≡_};
+ghost use mathlib.Core.List.{[]};
 ghost use Rattle.rules.specs.declared.Command.the-variants as Do;
 ghost use Rattle.rules.specs.Answers as Answers;
 ghost use Rattle.rules.specs.Commands.{opening};
@@ -86,33 +87,60 @@ pub fn deliver(b: Board, n: u8) -> Stepped
     step(b, Command::Deliver(n))
 }
 
+// Nothing is run: the answer, and the board as it is.
+fn refused(a: Answer, b: Board) -> Ran
+    ensures { λ r. ⌜ r ≡ Sheet.refusedRun a b [] .ran ⌝ }
+{
+    Ran {
+        answer: a,
+        commands: 0,
+        board: b,
+    }
+}
+
 // Packed commands, two bytes each; the number of each answer goes into the room, whose bytes beyond them stay.
 pub fn run(b: Board, s: &[u8], room: &mut [u8]) -> Ran
     ensures { λ r. ⌜ (r ≡ Sheet.run b (now (s .entry)) (now (room .entry)) .ran) × (now (room .exit) ≡ Sheet.run b (now (s .entry)) (now (room .entry)) .room) ⌝ }
 {
     if !guard::is_ready(b) {
-        return Ran {
-            answer: Answer::OutOfShape,
-            commands: 0,
-            board: b,
-        };
+        return refused(Answer::OutOfShape, b);
     }
     if s.len() % 2 == 1 {
-        return Ran {
-            answer: Answer::OddByte,
-            commands: 0,
-            board: b,
-        };
+        return refused(Answer::OddByte, b);
     }
     let n = s.len() / 2;
     if room.len() < n {
-        return Ran {
-            answer: Answer::RoomTooShort,
-            commands: 0,
-            board: b,
-        };
+        return refused(Answer::RoomTooShort, b);
     }
     engine::turns(b, s, false, n, room)
+}
+
+// An opening, and packed commands on it. An opening is in shape, so the shape is not asked.
+pub fn run_opening(
+    nodes: u8,
+    processes: u8,
+    objects: u8,
+    process_home: [u8; 16],
+    object_home: [u8; 16],
+    s: &[u8],
+    room: &mut [u8],
+) -> Ran
+    ensures { λ r. ⌜ (r ≡ Sheet.runOpening nodes processes objects «process_home» «object_home» (now (s .entry)) (now (room .entry)) .ran)
+        × (now (room .exit) ≡ Sheet.runOpening nodes processes objects «process_home» «object_home» (now (s .entry)) (now (room .entry)) .room) ⌝ }
+{
+    let opened = open(nodes, processes, objects, process_home, object_home);
+    let answer = opened.answer;
+    if answer::number(answer) != 0 {
+        return refused(answer, opened.board);
+    }
+    if s.len() % 2 == 1 {
+        return refused(Answer::OddByte, opened.board);
+    }
+    let n = s.len() / 2;
+    if room.len() < n {
+        return refused(Answer::RoomTooShort, opened.board);
+    }
+    engine::turns(opened.board, s, false, n, room)
 }
 
 // The lowest-numbered message arrives, again and again, until none is left or the budget is used.

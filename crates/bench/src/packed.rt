@@ -71,5 +71,15 @@ pub fn asked_of(l: Entries) -> u8
     ensures { λ r. ⌜ (r ≡ Lists.askedOf l) × (r < 16) ⌝ }
 {
     let next = books::bits::wide(l.next);
-    l.who[next]
+    let who = l.who;
+    who[next]
+}
+
+// The process that started a list.
+pub fn starter_of(l: Entries) -> u8
+    requires { ⌜ ListRanged l ⌝ }
+    ensures { λ r. ⌜ (r ≡ Lists.starterOf l) × (r < 16) ⌝ }
+{
+    let who = l.who;
+    who[0]
 }

@@ -6,8 +6,8 @@ use Prim.Native.Nat.{ℕ, zero, suc, _+_, _≤_, _<_}
 use native.Mathlib.Omega.{arith}
 use native.Mathlib.Numerals.{add-one}
 use native.Mathlib.Decide.{decLt, ℕ-discrete}
-use lib.Dec.{eqb, ltb}
-use lib.ListN.{length}
+use lib.Dec.{eqb}
+use lib.ListN.{length, set}
 use lib.Seq.{getD-set-same, getD-set-other}
 use borrow.Author.Tests.{eq-eqb, ne-eqb, eqb-true}
 use Rattle.rules.specs.declared.Entries.{Entries}
@@ -51,14 +51,14 @@ module _ (q : ℕ) (t : ℕ → Bool) (f : ℕ → ℕ) (n : ℕ) (h : among q (
   next-fails e = rw (add-one, among-more, h, e)
 
 -- ---- one more entry
+-- the list with process q at its end, which is written at a place
+abbrev pub longerAt : Entries → ℕ → ℕ → ℕ → Entries
+longerAt l end q lead = record { who = set (l .who) end q; leads = set (l .leads) end lead; count = l .count + 1; next = l .next }
+
 pub listed-longer : (l : Entries) (q lead k : ℕ) → l .count < length (l .who) → listed (longer l q lead) k ≡ either (listed l k) (eqb q k)
 unfolding listed
 listed-longer l q lead k h =
     rw (add-one, among-row, getD-set-same (l .who) (l .count) q 0 h, rows-ext (l .count) (entryAt (longer l q lead)) (entryAt l) (λ j z. getD-set-other (l .who) (l .count) j q 0 (λ e. absurd (omega arith))))
-
-pub add-unlisted : (l : Entries) (lead q : ℕ) → listed l q ≡ false → addOne l lead q ≡ pick (ltb (l .count) 16) (longer l q lead) l
-unfolding addOne
-add-unlisted l lead q e = rw e
 
 none-more : (b : Bool) → b ≡ either b false
 none-more true = refl

@@ -2,14 +2,15 @@
 use mathlib.Core.Path.{_≡_, refl, sym, ap, _∙_}
 use mathlib.Core.Bool.{true, false}
 use mathlib.Core.List.{List, [], _∷_, _++_}
-use Prim.Native.Nat.{ℕ, zero, suc, _+_, _-_, _<_}
+use Prim.Native.Nat.{ℕ, zero, suc, _+_, _-_, _≤_, _<_}
 use native.Mathlib.Omega.{arith}
 use lib.Dec.{ltb}
 use lib.ListN.{length, replicate, length-append}
 use lib.Seq.{set-append-seam, append-snoc}
-use borrow.Author.Tests.{lt-ltb}
+use borrow.Author.Tests.{lt-ltb, le-ltb}
 use Rattle.rules.specs.declared.Entries.{Entries}
-use Rattle.rules.specs.Lists.{entryAt, leadAt, alongLeads, ringOf}
+use Rattle.rules.specs.declared.Ring.{Ring}
+use Rattle.rules.specs.Lists.{entryAt, leadAt, alongLeads, ringOf, noRing}
 use Rattle.rules.proofs.Lists.{along-length, along-fuel}
 use Rattle.books.specs.Rings.{extended}
 
@@ -38,3 +39,16 @@ back l (suc at) h b =
     ring-extended (alongLeads (leadAt l (suc at)) l (leadAt l (suc at))) (entryAt l (suc at)) (omega (arith, along-length (leadAt l (suc at)) l (leadAt l (suc at))))
     ∙ ap (λ (x : List ℕ). ringOf (x ++ entryAt l (suc at) ∷ [])) (along-fuel (leadAt l (suc at)) at l (leadAt l (suc at)) (omega arith) (omega arith))
     ∙ ap ringOf (sym (led l at (suc at) (lt-ltb (leadAt l (suc at)) (suc at) h)))
+
+-- a ring of fewer than 16 that becomes the ring to an entry by the entry's process
+abbrev pub Leads : Entries → ℕ → Ring → Type 0
+Leads l at r = (r .count < 16) × (extended r (entryAt l at) ≡ ringOf (alongLeads at l at))
+
+module _ (l : Entries) (at : ℕ) (b : at < 16) (lead : ℕ) (is-lead : lead ≡ leadAt l at) (r : Ring) where
+  -- that to the entry that led to it does so
+  pub along-lead : lead < at → r ≡ ringOf (alongLeads lead l lead) → Leads l at r
+  along-lead h is-r = rw (is-r, is-lead) (omega (arith, along-length (leadAt l at) l (leadAt l at), rw is-lead at h), back l at (rw is-lead at h) b)
+
+  -- and none, where no earlier entry led to it
+  pub at-start : at ≤ lead → r ≡ noRing → Leads l at r
+  at-start h is-r = rw is-r (omega arith, ring-extended [] (entryAt l at) (omega arith) ∙ ap ringOf (sym (unled l at at (le-ltb (leadAt l at) at (rw is-lead at h)))))

@@ -6,19 +6,19 @@ use Prim.Native.Nat.{ℕ, suc, _+_, _≤_, _<_}
 use native.Mathlib.Omega.{arith}
 use native.Mathlib.Numerals.{add-one}
 use native.Mathlib.Decide.{decLt, ℕ-discrete}
-use lib.Dec.{eqb, ltb, leb}
+use lib.Dec.{eqb, leb}
 use lib.ListN.{length}
 use lib.Pow.{pow-pos}
-use borrow.Author.Tests.{eq-eqb, ne-eqb, le-ltb, le-leb, lt-leb, leb-true}
+use borrow.Author.Tests.{eq-eqb, ne-eqb, le-leb, lt-leb, leb-true}
 use Rattle.rules.specs.declared.Entries.{Entries}
 use Rattle.rules.specs.Tables.{pick, either, rows, collect, among}
 use Rattle.rules.specs.Bits.{taken, withBit, withoutBit, lowestTaken}
-use Rattle.rules.specs.Lists.{listed, longer, addOne, addAll}
+use Rattle.rules.specs.Lists.{listed, addOne, addAll}
 use Rattle.rules.proofs.Bits.{taken-with, taken-without, without-same, without-other, taken-le, taken-zero, taken-below, lowest-taken, lowest-taken-before}
 use Rattle.rules.proofs.Tables.{true-not-false, both-left, both-right}
 use Rattle.rules.proofs.Lists.{addOne-listed, addOne-full, addOne-new, addOne-grown}
 use Rattle.books.specs.Sets.{Marks, Fresh}
-use Rattle.books.proofs.Gathering.{eqb-swap, among-row, listed-longer, listed-one, add-unlisted, add-more, add-none}
+use Rattle.books.proofs.Gathering.{eqb-swap, among-row, longerAt, listed-longer, listed-one, add-more, add-none}
 
 swap : (x y : Bool) → pick x true y ≡ either y x
 swap true true = refl
@@ -29,6 +29,12 @@ swap false false = refl
 -- ---- marking those who are listed
 pub mark-row : (s : ℕ) (f : ℕ → ℕ) (n : ℕ) → ((k : ℕ) → taken s k ≡ among k (rows n f)) → (k : ℕ) → taken (withBit s (f n)) k ≡ among k (rows (suc n) f)
 mark-row s f n h k = taken-with s (f n) k ∙ rw (h k, eqb-swap k (f n)) (swap (eqb (f n) k) (among k (rows n f))) ∙ sym (among-row k f n)
+
+-- process q stands at place i and passes
+pub record Passes (t : ℕ → Bool) (f : ℕ → ℕ) (i q : ℕ) : Type 0 where
+  pub is : q ≡ f i
+  pub passes : t i ≡ true
+  pub small : q < 64
 
 -- what adding has done after i places, and whom it has marked
 pub record Gathered (t : ℕ → Bool) (f : ℕ → ℕ) (start : Entries) (lead : ℕ) (l : Entries) (seen i : ℕ) : Type 0 where
@@ -45,37 +51,39 @@ module _ (t : ℕ → Bool) (f : ℕ → ℕ) (start : Entries) (lead : ℕ) whe
     pub gathered-fails : t i ≡ false → Gathered t f start lead l seen (i + 1)
     gathered-fails e = record { is = a .is ∙ sym (rw add-one (add-more t f start lead i ∙ rw e)); size = a .size; marks = a .marks }
 
-    one-more : t i ≡ true → addOne l lead (f i) ≡ addAll start lead (collect t f (i + 1))
-    one-more e = ap (λ (x : Entries). addOne x lead (f i)) (a .is) ∙ sym (rw add-one (add-more t f start lead i ∙ rw e))
+    module _ (q : ℕ) (here : Passes t f i q) where
+      one-more : addOne l lead q ≡ addAll start lead (collect t f (i + 1))
+      one-more = rw (here .is) (ap (λ (x : Entries). addOne x lead (f i)) (a .is) ∙ sym (rw add-one (add-more t f start lead i ∙ rw (here .passes))))
 
-    -- one who is marked is not added
-    pub gathered-marked : t i ≡ true → f i < 64 → taken seen (f i) ≡ true → Gathered t f start lead l seen (i + 1)
-    gathered-marked e h z = record { is = sym same ∙ one-more e; size = a .size; marks = a .marks }
-      where
-        same : addOne l lead (f i) ≡ l
-        same = elim (decLt (l .count) 16) [
-          | yes y ↦ addOne-listed l lead (f i) (sym (a .marks y .has (f i) h) ∙ z)
-          | no y ↦ addOne-full l lead (f i) (omega arith)
-        ]
+      -- one who is marked is not added
+      pub gathered-marked : taken seen q ≡ true → Gathered t f start lead l seen (i + 1)
+      gathered-marked z = record { is = sym same ∙ one-more; size = a .size; marks = a .marks }
+        where
+          same : addOne l lead q ≡ l
+          same = elim (decLt (l .count) 16) [
+            | yes y ↦ addOne-listed l lead q (sym (a .marks y .has q (here .small)) ∙ z)
+            | no y ↦ addOne-full l lead q (omega arith)
+          ]
 
-    pub gathered-one : (x : Entries) (marks : ℕ) → t i ≡ true → f i < 64 → taken seen (f i) ≡ false
-        → x ≡ pick (ltb (l .count) 16) (longer l (f i) lead) l → marks ≡ withBit seen (f i) → Gathered t f start lead x marks (i + 1)
-    gathered-one x marks e h z is-x is-marks = record {
-      is = grown ∙ one-more e;
-      size = ap (λ (y : Entries). length (y .who)) grown ∙ addOne-grown l lead (f i) .who-size ∙ a .size;
-      marks = λ y. record { has = λ k u. rw (is-marks, grown) (marked k u (rw grown at y)) };
-    }
-      where
-        grown : x ≡ addOne l lead (f i)
-        grown = is-x ∙ elim (decLt (l .count) 16) [
-          | yes y ↦ sym (add-unlisted l lead (f i) (sym (a .marks y .has (f i) h) ∙ z))
-          | no y ↦ rw (le-ltb (l .count) 16 (omega arith)) (sym (addOne-full l lead (f i) (omega arith)))
-        ]
+      module _ (marks : ℕ) (is-marks : marks ≡ withBit seen q) where
+        gathered-one : (x : Entries) → x ≡ addOne l lead q → Gathered t f start lead x marks (i + 1)
+        gathered-one x grown = record {
+          is = grown ∙ one-more;
+          size = ap (λ (y : Entries). length (y .who)) grown ∙ addOne-grown l lead q .who-size ∙ a .size;
+          marks = λ y. record { has = λ k u. rw (is-marks, grown) (marked k u (rw grown at y)) };
+        }
+          where
+            marked : (k : ℕ) → k < 64 → addOne l lead q .count < 16 → taken (withBit seen q) k ≡ listed (addOne l lead q) k
+            marked k u y =
+                taken-with seen q k ∙ rw (a .marks (omega (arith, addOne-grown l lead q .longer)) .has k u, eqb-swap k q) (swap (eqb q k) (listed l k))
+                ∙ sym (listed-one l lead q k (a .size) y)
 
-        marked : (k : ℕ) → k < 64 → addOne l lead (f i) .count < 16 → taken (withBit seen (f i)) k ≡ listed (addOne l lead (f i)) k
-        marked k u y =
-            taken-with seen (f i) k ∙ rw (a .marks (omega (arith, addOne-grown l lead (f i) .longer)) .has k u, eqb-swap k (f i)) (swap (eqb (f i) k) (listed l k))
-            ∙ sym (listed-one l lead (f i) k (a .size) y)
+        -- a list of 16 stays, a shorter one takes the process at its end
+        pub gathered-full : 16 ≤ l .count → Gathered t f start lead l marks (i + 1)
+        gathered-full h = gathered-one l (sym (addOne-full l lead q h))
+
+        pub gathered-longer : (end : ℕ) → end ≡ l .count → l .count < 16 → taken seen q ≡ false → Gathered t f start lead (longerAt l end q lead) marks (i + 1)
+        gathered-longer end is-end h z = gathered-one (longerAt l end q lead) (rw is-end (sym (addOne-new l lead q (sym (a .marks h .has q (here .small)) ∙ z) h)))
 
 -- ---- adding the numbers of a set, the lowest first
 pub without-less : (n k : ℕ) → taken n k ≡ true → withoutBit n k < n
@@ -144,14 +152,20 @@ module _ (start : Entries) (lead fresh : ℕ) (h : Fresh start fresh) where
           stood : taken (withoutBit left q) k ≡ true → taken left k ≡ true
           stood e = sym (without-other left q k (other e)) ∙ e
 
-      pub taking-one : (x : Entries) (less : ℕ) → x ≡ pick (ltb (l .count) 16) (longer l q lead) l → less ≡ withoutBit left q → Taking start lead fresh x less
-      taking-one x less is-x is-less =
-          let grown : x ≡ addOne l lead q = is-x ∙ sym (add-unlisted l lead q (a .unlisted q here)) in
-          record {
-            from = suc q;
-            inside = omega (arith, taken-below fresh q 16 (h .below) fresh-has);
-            is = grown ∙ grows;
-            size = ap (λ (y : Entries). length (y .who)) grown ∙ addOne-grown l lead q .who-size ∙ a .size;
-            rest = λ k. rw is-less (left-over k);
-            unlisted = λ k e. rw grown (still k (rw is-less at e));
-          }
+      module _ (less : ℕ) (is-less : less ≡ withoutBit left q) where
+        taking-one : (x : Entries) → x ≡ addOne l lead q → Taking start lead fresh x less
+        taking-one x grown = record {
+          from = suc q;
+          inside = omega (arith, taken-below fresh q 16 (h .below) fresh-has);
+          is = grown ∙ grows;
+          size = ap (λ (y : Entries). length (y .who)) grown ∙ addOne-grown l lead q .who-size ∙ a .size;
+          rest = λ k. rw is-less (left-over k);
+          unlisted = λ k e. rw grown (still k (rw is-less at e));
+        }
+
+        -- a list of 16 stays, a shorter one takes the process at its end
+        pub taking-full : 16 ≤ l .count → Taking start lead fresh l less
+        taking-full z = taking-one l (sym (addOne-full l lead q z))
+
+        pub taking-longer : (end : ℕ) → end ≡ l .count → l .count < 16 → Taking start lead fresh (longerAt l end q lead) less
+        taking-longer end is-end z = taking-one (longerAt l end q lead) (rw is-end (sym (addOne-new l lead q (a .unlisted q here) z)))

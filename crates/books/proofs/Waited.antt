@@ -1,26 +1,23 @@
 -- Those that a process waits for, as a list takes them up: holders by their set, then those ahead; and what an object's home makes of a list.
 use mathlib.Core.Path.{_≡_, refl, sym, ap, _∙_}
 use mathlib.Core.Bool.{Bool, true, false, not, _&&_}
-use mathlib.Core.List.{List}
-use Prim.Native.Nat.{ℕ, _-_, _^_, _≤_, _<_}
+use Prim.Native.Nat.{ℕ, _+_, _-_, _^_, _<_}
 use native.Mathlib.Omega.{arith}
 use lib.Dec.{ltb}
 use lib.Bits.{bitOr, bitAnd}
 use lib.ListN.{length}
-use borrow.Author.Tests.{lt-ltb, le-ltb, ltb-false, not-true, not-false}
+use borrow.Author.Tests.{lt-ltb, ltb-false, not-true, not-false}
 use Rattle.rules.specs.declared.Mode.{Mode}
 use Rattle.rules.specs.declared.Entries.{Entries}
 use Rattle.rules.specs.declared.Object.{Object}
-use Rattle.rules.specs.declared.Ring.{Ring}
-use Rattle.rules.specs.declared.Looked.{Looked}
 use Rattle.rules.specs.Tables.{rows, collect, among}
 use Rattle.rules.specs.Bits.{taken, withBit}
-use Rattle.rules.specs.Book.{modeAt, placeIn, waitedFor}
-use Rattle.rules.specs.Lists.{nothing, starterOf, askedOf, listed, addAll, toHome, starter, started, alongLeads, ringOf, listAtObject}
+use Rattle.rules.specs.Book.{modeAt, waitedFor}
+use Rattle.rules.specs.Lists.{starterOf, askedOf, listed, addAll, withNext, starter}
 use Rattle.rules.proofs.Bits.{taken-with, taken-zero, taken-or, taken-and, taken-not, taken-above, below-from}
 use Rattle.rules.proofs.Tables.{both-left, both-right}
 use Rattle.books.specs.Sets.{SetOf, Marks, Fresh}
-use Rattle.books.specs.Rings.{goesOn}
+use Rattle.books.specs.Onwards.{closes, grown}
 use Rattle.books.proofs.Holds.{set-inside, set-passes, set-at, set-among}
 use Rattle.books.proofs.Gathering.{eqb-swap, listed-all, add-new}
 
@@ -75,27 +72,10 @@ pub starter-marks : (p : ℕ) → Marks (starter p) (withBit 0 p)
 unfolding listed rows among
 starter-marks p = record { has = λ k z. taken-with 0 p k ∙ rw (taken-zero k, eqb-swap k p) }
 
-module _ (p : ℕ) (qs : List ℕ) (x : Entries) (is-x : x ≡ addAll (starter p) 0 qs) where
-  pub started-some : 1 < x .count → toHome x ≡ started p qs
-  unfolding started
-  started-some h = rw (sym is-x, lt-ltb 1 (x .count) h)
+-- ---- a list arrives at an object: p is asked, and m is its mode at place k of the line
+module _ (l : Entries) (o : Object) (p k : ℕ) (m : Mode) (is-p : p ≡ askedOf l) (is-m : m ≡ modeAt o k) (inside : k < o .«line_count») where
+  pub closes-inside : among (starterOf l) (waitedFor o p m k) ≡ closes l o k
+  closes-inside = rw (is-p, is-m, lt-ltb k (o .«line_count») inside)
 
-  pub started-none : x .count ≤ 1 → nothing ≡ started p qs
-  unfolding started
-  started-none h = rw (sym is-x, le-ltb 1 (x .count) h)
-
--- ---- a list arrives at an object: k is the place of p, who is asked, and m its mode there
-module _ (l : Entries) (o : Object) (p k : ℕ) (is-p : p ≡ askedOf l) (is-k : k ≡ placeIn o p) where
-  pub looked-past : o .«line_count» ≤ k → goesOn l ≡ listAtObject l o
-  unfolding listAtObject
-  looked-past h = rw (le-ltb (placeIn o (askedOf l)) (o .«line_count») (rw (is-k, is-p) at h))
-
-  module _ (m : Mode) (is-m : m ≡ modeAt o k) (inside : k < o .«line_count») where
-    pub looked-ring : (r : Ring) → among (starterOf l) (waitedFor o p m k) ≡ true → r ≡ ringOf (alongLeads (l .next) l (l .next))
-        → _≡_ {A = Looked} (record { sent = nothing; ring = r }) (listAtObject l o)
-    unfolding listAtObject
-    looked-ring r e is-r = rw (is-r, lt-ltb (placeIn o (askedOf l)) (o .«line_count») (rw (is-k, is-p) at inside), rw (is-m, is-k, is-p) at e)
-
-    pub looked-on : (x : Entries) → among (starterOf l) (waitedFor o p m k) ≡ false → x ≡ addAll l (l .next) (waitedFor o p m k) → goesOn x ≡ listAtObject l o
-    unfolding listAtObject
-    looked-on x e is-x = rw (is-x, is-m, is-k, is-p, lt-ltb (placeIn o (askedOf l)) (o .«line_count») (rw (is-k, is-p) at inside), rw (is-m, is-k, is-p) at e)
+  pub grown-inside : (x : Entries) → x ≡ addAll l (l .next) (waitedFor o p m k) → withNext x (l .next + 1) ≡ grown l o k
+  grown-inside x is-x = rw (is-x, is-p, is-m, lt-ltb k (o .«line_count») inside)

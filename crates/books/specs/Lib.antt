@@ -2,3 +2,4 @@
 pub mod Tests
 pub mod Sets
 pub mod Rings
+pub mod Onwards

@@ -3,12 +3,11 @@ ghost use mathlib.Core.Path.{_≡_};
 ghost use Prim.Native.Nat.{_<_};
 ghost use Rattle.rules.specs.Answers as Answers;
 ghost use Rattle.rules.specs.Home as Home;
-ghost use Rattle.rules.specs.Lists as Lists;
 ghost use Rattle.books.specs.Tests as Tests;
+ghost use Rattle.books.specs.Onwards as Onwards;
+use crate::message::Onward;
 use rules::Answer;
-use rules::Entries;
 use rules::Kind;
-use rules::Message;
 use rules::Mode;
 use rules::Process;
 use rules::Wait;
@@ -115,15 +114,26 @@ pub fn release_answer(p: u8, o: u8, processes: u8, objects: u8, book: Process) -
 }
 
 // A list arrives at the home of its next entry: it goes to the object that the process waits for; otherwise the entry is done.
-pub fn list_at_home(l: Entries, w: Wait) -> Message
-    requires { ⌜ l .next < 16 ⌝ }
-    ensures { λ r. ⌜ r ≡ Lists.listAtHome l w ⌝ }
+pub fn onward(next: u8, count: u8, w: Wait) -> Onward
+    requires { ⌜ next < 16 ⌝ }
+    ensures { λ r. ⌜ r ≡ Onwards.onward next count w ⌝ }
 {
     match w {
-        Wait::NotWaiting => crate::message::entry_done(l),
-        Wait::Waiting(o, _) => Message {
+        Wait::NotWaiting => {
+            if next + 1 < count {
+                return Onward {
+                    kind: Kind::ListToHome,
+                    next: next + 1,
+                };
+            }
+            Onward {
+                kind: Kind::Free,
+                next: 0,
+            }
+        }
+        Wait::Waiting(o, _) => Onward {
             kind: Kind::ListToObject(o),
-            list: l,
+            next: next,
         },
     }
 }

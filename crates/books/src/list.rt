@@ -1,7 +1,8 @@
 // What the home of an object does with a list, how a list is started, and the ring along its leads.
 ghost use mathlib.Core.Path.{_≡_};
 ghost use Prim.Native.Nat.{_<_, _≤_};
-ghost use lib.Dec.{ltb};
+ghost use mathlib.Core.Bool.{not, _&&_};
+ghost use lib.Dec.{eqb};
 ghost use Rattle.rules.specs.Bits as Bits;
 ghost use Rattle.rules.specs.Tables as Tables;
 ghost use Rattle.rules.specs.Book as Book;
@@ -9,10 +10,8 @@ ghost use Rattle.rules.specs.Lists as Lists;
 ghost use Rattle.rules.specs.Ranges.{LineRanged, ListRanged};
 ghost use Rattle.books.specs.Sets.{Marks, Fresh};
 ghost use Rattle.books.specs.Rings as Rings;
+ghost use Rattle.books.specs.Onwards as Onwards;
 use rules::Entries;
-use rules::Kind;
-use rules::Looked;
-use rules::Message;
 use rules::Mode;
 use rules::Object;
 use rules::Ring;
@@ -23,59 +22,56 @@ fn listed(l: Entries) -> u64
     ensures { λ r. ⌜ Marks l r ⌝ }
 {
     let n = crate::bits::wide(l.count);
+    let who = l.who;
     let mut seen: u64 = 0;
     let mut i: usize = 0;
     while i < n {
-        seen = crate::bits::with(seen, l.who[i]);
+        seen = crate::bits::with(seen, who[i]);
         i += 1;
     }
     seen
 }
 
-// The list with process q at its end; a list of 16 does not grow.
-fn longer(l: Entries, q: u8, lead: u8) -> Entries
-    ensures { λ r. ⌜ r ≡ Tables.pick (ltb (l .count) 16) (Lists.longer l q lead) l ⌝ }
-{
-    let n = l.count;
-    if n < 16 {
-        let at = crate::bits::wide(n);
-        let mut next = l;
-        next.who[at] = q;
-        next.leads[at] = lead;
-        next.count = n + 1;
-        return next;
-    }
-    l
-}
-
-// The list with the processes of a set, by rising number. None of them is listed yet.
+// The list with the processes of a set, by rising number. None of them is listed yet. A list of 16 does not grow.
 fn add_set(start: Entries, fresh: u64, lead: u8) -> Entries
     requires { ⌜ Fresh start fresh ⌝ }
     ensures { λ r. ⌜ r ≡ Lists.addAll start lead (Tables.collect (Bits.taken fresh) (λ q. q) 16) ⌝ }
 {
-    let mut l = start;
+    let mut who = start.who;
+    let mut leads = start.leads;
+    let mut n = start.count;
     let mut left = fresh;
     while left != 0 {
         let q = crate::bits::lowest(left) as u8;
-        l = longer(l, q, lead);
         left = crate::bits::without(left, q);
+        if 16 <= n {
+            continue;
+        }
+        let at = crate::bits::wide(n);
+        who[at] = q;
+        leads[at] = lead;
+        n += 1;
     }
-    l
+    Entries {
+        who: who,
+        leads: leads,
+        count: n,
+        next: start.next,
+    }
 }
 
-// The one at a place of the line, other than p, conflicts with the mode.
-fn bars(o: Object, p: u8, m: Mode, i: u8) -> bool
+// Process q, which stands at place i of a line of these exclusive places, is another than p and conflicts with the mode.
+fn bars(q: u8, exclusive: u64, p: u8, m: Mode, i: u8) -> bool
     requires { ⌜ i < 16 ⌝ }
-    ensures { λ r. ⌜ r ≡ Book.bars o p m i ⌝ }
+    ensures { λ r. ⌜ r ≡ (not (eqb q p) && Book.conflict m (Book.modeIf (Bits.taken exclusive i))) ⌝ }
 {
-    let at = crate::bits::wide(i);
-    if o.line[at] == p {
+    if q == p {
         return false;
     }
     if crate::mode::is_exclusive(m) {
         return true;
     }
-    crate::bits::has(o.line_exclusive, i)
+    crate::bits::has(exclusive, i)
 }
 
 // The list with those who stand ahead of place k of the line in conflict with the mode. Those listed already are marked.
@@ -83,13 +79,16 @@ fn add_ahead(start: Entries, marks: u64, o: Object, p: u8, m: Mode, k: u8, lead:
     requires { ⌜ LineRanged o × (k ≤ 16) × (start .count < 16 → Marks start marks) ⌝ }
     ensures { λ r. ⌜ r ≡ Lists.addAll start lead (Book.ahead o p m k) ⌝ }
 {
-    let mut l = start;
+    let mut who = start.who;
+    let mut leads = start.leads;
+    let mut n = start.count;
+    let line = o.line;
     let mut seen = marks;
     let mut i: u8 = 0;
     while i < k {
         let at = crate::bits::wide(i);
-        let q = o.line[at];
-        if !bars(o, p, m, i) {
+        let q = line[at];
+        if !bars(q, o.line_exclusive, p, m, i) {
             i += 1;
             continue;
         }
@@ -97,11 +96,22 @@ fn add_ahead(start: Entries, marks: u64, o: Object, p: u8, m: Mode, k: u8, lead:
             i += 1;
             continue;
         }
-        l = longer(l, q, lead);
         seen = crate::bits::with(seen, q);
         i += 1;
+        if 16 <= n {
+            continue;
+        }
+        let end = crate::bits::wide(n);
+        who[end] = q;
+        leads[end] = lead;
+        n += 1;
     }
-    l
+    Entries {
+        who: who,
+        leads: leads,
+        count: n,
+        next: start.next,
+    }
 }
 
 // The list with those that p waits for in the mode at place k: holders by rising number, then those ahead. Those listed already
@@ -116,17 +126,17 @@ fn add_unmarked(l: Entries, marks: u64, o: Object, p: u8, m: Mode, k: u8, lead: 
 }
 
 // The list with those that p waits for in the mode at place k.
-pub fn add_waited(l: Entries, o: Object, p: u8, m: Mode, k: u8, lead: u8) -> Entries
+fn add_waited(l: Entries, o: Object, p: u8, m: Mode, k: u8, lead: u8) -> Entries
     requires { ⌜ ListRanged l × LineRanged o × (p < 16) × (k ≤ 16) ⌝ }
     ensures { λ r. ⌜ r ≡ Lists.addAll l lead (Book.waitedFor o p m k) ⌝ }
 {
     add_unmarked(l, listed(l), o, p, m, k, lead)
 }
 
-// The list that p starts, which waits in the mode at place k; nothing where it waits for nobody.
-pub fn start(o: Object, p: u8, m: Mode, k: u8) -> Message
+// The list that p starts, which waits in the mode at place k. It has one entry where p waits for nobody.
+pub fn started(o: Object, p: u8, m: Mode, k: u8) -> Entries
     requires { ⌜ LineRanged o × (p < 16) × (k ≤ 16) ⌝ }
-    ensures { λ r. ⌜ r ≡ Lists.started p (Book.waitedFor o p m k) ⌝ }
+    ensures { λ r. ⌜ r ≡ Lists.addAll (Lists.starter p) 0 (Book.waitedFor o p m k) ⌝ }
 {
     let mut first = Entries {
         who: [0; 16],
@@ -135,14 +145,7 @@ pub fn start(o: Object, p: u8, m: Mode, k: u8) -> Message
         next: 1,
     };
     first.who[0] = p;
-    let l = add_unmarked(first, crate::bits::with(0, p), o, p, m, k, 0);
-    if 1 < l.count {
-        return Message {
-            kind: Kind::ListToHome,
-            list: l,
-        };
-    }
-    crate::message::plain(Kind::Free)
+    add_unmarked(first, crate::bits::with(0, p), o, p, m, k, 0)
 }
 
 // The place of p in the line; the line's length where it is not there.
@@ -151,10 +154,11 @@ pub fn place_in(o: Object, p: u8) -> u8
     ensures { λ r. ⌜ r ≡ Book.placeIn o p ⌝ }
 {
     let n = o.line_count;
+    let line = o.line;
     let mut k: u8 = 0;
     while k < n {
         let i = crate::bits::wide(k);
-        if o.line[i] == p {
+        if line[i] == p {
             return k;
         }
         k += 1;
@@ -167,14 +171,15 @@ fn is_ahead(o: Object, p: u8, m: Mode, k: u8, s: u8) -> bool
     requires { ⌜ LineRanged o × (k ≤ 16) ⌝ }
     ensures { λ r. ⌜ r ≡ Tables.among s (Book.ahead o p m k) ⌝ }
 {
+    let line = o.line;
     let mut i: u8 = 0;
     while i < k {
         let at = crate::bits::wide(i);
-        if o.line[at] != s {
+        if line[at] != s {
             i += 1;
             continue;
         }
-        if bars(o, p, m, i) {
+        if bars(s, o.line_exclusive, p, m, i) {
             return true;
         }
         i += 1;
@@ -209,10 +214,12 @@ fn extended(r: Ring, p: u8) -> Ring
 {
     let n = r.count;
     let at = crate::bits::wide(n);
-    let mut next = r;
-    next.processes[at] = p;
-    next.count = n + 1;
-    next
+    let mut processes = r.processes;
+    processes[at] = p;
+    Ring {
+        processes: processes,
+        count: n + 1,
+    }
 }
 
 // The ring from the starter along the leads to the entry at the place, which falls at each call.
@@ -220,43 +227,56 @@ pub fn along_leads(l: Entries, at: usize) -> Ring
     requires { ⌜ at < 16 ⌝ }
     ensures { λ r. ⌜ r ≡ Lists.ringOf (Lists.alongLeads at l at) ⌝ }
 {
-    let lead = crate::bits::wide(l.leads[at]);
-    if at <= lead {
-        return extended(no_ring(), l.who[at]);
+    let leads = l.leads;
+    let who = l.who;
+    let lead = crate::bits::wide(leads[at]);
+    let mut ring = no_ring();
+    if lead < at {
+        ring = along_leads(l, lead);
     }
-    extended(along_leads(l, lead), l.who[at])
+    extended(ring, who[at])
 }
 
-// The entry is done and no ring was found.
-fn goes_on(l: Entries) -> Looked
-    requires { ⌜ l .next < 16 ⌝ }
-    ensures { λ r. ⌜ r ≡ Rings.goesOn l ⌝ }
-{
-    Looked {
-        sent: crate::message::entry_done(l),
-        ring: no_ring(),
-    }
-}
-
-// A list arrives at an object.
-pub fn list_at_object(l: Entries, o: Object) -> Looked
+// The process asked next stands at place k of the line, and waits for the starter: the list closes a ring.
+pub fn closes(l: Entries, o: Object, k: u8) -> bool
     requires { ⌜ ListRanged l × LineRanged o ⌝ }
-    ensures { λ r. ⌜ r ≡ Lists.listAtObject l o ⌝ }
+    ensures { λ r. ⌜ r ≡ Onwards.closes l o k ⌝ }
 {
-    let next = crate::bits::wide(l.next);
-    let p = l.who[next];
-    let k = place_in(o, p);
     if o.line_count <= k {
-        return goes_on(l);
+        return false;
     }
-    let m = crate::object::mode_at(o, k);
-    if waits_for(o, p, m, k, l.who[0]) {
-        return Looked {
-            sent: crate::message::plain(Kind::Free),
-            ring: along_leads(l, next),
-        };
+    let next = crate::bits::wide(l.next);
+    let who = l.who;
+    waits_for(o, who[next], crate::object::mode_at(o, k), k, who[0])
+}
+
+// The list with another place as that of the entry asked next.
+fn with_next(l: Entries, next: u8) -> Entries
+    ensures { λ r. ⌜ r ≡ Lists.withNext l next ⌝ }
+{
+    let who = l.who;
+    let leads = l.leads;
+    Entries {
+        who: who,
+        leads: leads,
+        count: l.count,
+        next: next,
     }
-    goes_on(add_waited(l, o, p, m, k, l.next))
+}
+
+// The list after its next entry is done, with those that the process waits for at place k of the line; with nobody more where it does
+// not stand there.
+pub fn grown(l: Entries, o: Object, k: u8) -> Entries
+    requires { ⌜ ListRanged l × LineRanged o ⌝ }
+    ensures { λ r. ⌜ r ≡ Onwards.grown l o k ⌝ }
+{
+    if o.line_count <= k {
+        return with_next(l, l.next + 1);
+    }
+    let next = crate::bits::wide(l.next);
+    let who = l.who;
+    let added = add_waited(l, o, who[next], crate::object::mode_at(o, k), k, l.next);
+    with_next(added, l.next + 1)
 }
 
 // A filled place is kept.

@@ -1,39 +1,20 @@
-// What is sent: a message that is no list, and a list that goes on.
+// How a list goes on.
 ghost use mathlib.Core.Path.{_≡_};
-ghost use Prim.Native.Nat.{_<_};
-ghost use Rattle.rules.specs.Lists as Lists;
-use rules::Entries;
+ghost use Rattle.books.specs.Onwards as Onwards;
 use rules::Kind;
-use rules::Message;
 
-// A message that is no list.
-pub fn plain(k: Kind) -> Message
-    ensures { λ r. ⌜ r ≡ Lists.plain k ⌝ }
-{
-    Message {
-        kind: k,
-        list: Entries {
-            who: [0; 16],
-            leads: [0; 16],
-            count: 0,
-            next: 0,
-        },
-    }
+// What a list is sent as, and the place of the entry asked next.
+pub struct Onward {
+    pub kind: Kind,
+    pub next: u8,
 }
 
-// After a done entry the list goes to the home of the next, or ends.
-pub fn entry_done(l: Entries) -> Message
-    requires { ⌜ l .next < 16 ⌝ }
-    ensures { λ r. ⌜ r ≡ Lists.entryDone l ⌝ }
+// The list goes to the home of the entry at the next place, or ends where it has none there.
+pub fn asks_next(next: u8, count: u8) -> Kind
+    ensures { λ r. ⌜ r ≡ Onwards.asksNext next count ⌝ }
 {
-    let next = l.next + 1;
-    if next < l.count {
-        let mut list = l;
-        list.next = next;
-        return Message {
-            kind: Kind::ListToHome,
-            list: list,
-        };
+    if next < count {
+        return Kind::ListToHome;
     }
-    plain(Kind::Free)
+    Kind::Free
 }

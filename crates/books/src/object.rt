@@ -4,11 +4,8 @@ ghost use Prim.Native.Nat.{_<_, _-_};
 ghost use mathlib.Core.List.{[], _∷_, _++_};
 ghost use lib.ListN.{drop};
 ghost use Rattle.rules.specs.Book as Book;
-ghost use Rattle.rules.specs.Lists as Lists;
 ghost use Rattle.rules.specs.Ranges.{LineRanged};
 ghost use Rattle.books.specs.Sets.{SetOf};
-use rules::Arrived;
-use rules::Kind;
 use rules::Mode;
 use rules::Object;
 
@@ -70,17 +67,21 @@ pub fn join(o: Object, p: u8, m: Mode) -> Object
     if n < 16 {
         let at = crate::bits::wide(n);
         let x = crate::mode::is_exclusive(m);
-        let mut next = o;
-        next.line[at] = p;
-        next.line_exclusive = crate::bits::marked(o.line_exclusive, n, x);
-        next.line_count = n + 1;
-        return next;
+        let mut line = o.line;
+        line[at] = p;
+        return Object {
+            shared: o.shared,
+            exclusive: o.exclusive,
+            line: line,
+            line_exclusive: crate::bits::marked(o.line_exclusive, n, x),
+            line_count: n + 1,
+        };
     }
     o
 }
 
 // The line is empty and no holder conflicts.
-fn is_welcome(o: Object, p: u8, m: Mode) -> bool
+pub fn is_welcome(o: Object, p: u8, m: Mode) -> bool
     requires { ⌜ p < 16 ⌝ }
     ensures { λ r. ⌜ r ≡ Book.welcome o p m ⌝ }
 {
@@ -88,23 +89,6 @@ fn is_welcome(o: Object, p: u8, m: Mode) -> bool
         return false;
     }
     is_clear(o, p, m)
-}
-
-// A request arrives: the process becomes a holder and a grant is sent, or it joins the line and starts a list.
-pub fn request_arrives(ob: Object, p: u8, o: u8, m: Mode) -> Arrived
-    requires { ⌜ (p < 16) × LineRanged ob ⌝ }
-    ensures { λ r. ⌜ r ≡ Lists.requestArrives ob p o m ⌝ }
-{
-    if is_welcome(ob, p, m) {
-        return Arrived {
-            object: hold(ob, p, m),
-            sent: crate::message::plain(Kind::Grant(p, o, m)),
-        };
-    }
-    Arrived {
-        object: join(ob, p, m),
-        sent: crate::list::start(ob, p, m, ob.line_count),
-    }
 }
 
 // The front of the line conflicts with no holder.

@@ -281,13 +281,22 @@ unfolding started
 started-none p qs f = rw (started-same p qs f)
 
 -- ---- the way back along the leads
-along-more : (d : ℕ) (l : Entries) (at : ℕ) → leadAt l at < at → alongLeads (suc d) l at ≡ alongLeads d l (leadAt l at) ++ entryAt l at ∷ []
+pub along-more : (d : ℕ) (l : Entries) (at : ℕ) → leadAt l at < at → alongLeads (suc d) l at ≡ alongLeads d l (leadAt l at) ++ entryAt l at ∷ []
 unfolding alongLeads
 along-more d l at h = rw (alongLeads, lt-ltb (leadAt l at) at h)
 
-along-end : (d : ℕ) (l : Entries) (at : ℕ) → at ≤ leadAt l at → alongLeads (suc d) l at ≡ entryAt l at ∷ []
+pub along-end : (d : ℕ) (l : Entries) (at : ℕ) → at ≤ leadAt l at → alongLeads (suc d) l at ≡ entryAt l at ∷ []
 unfolding alongLeads
 along-end d l at h = rw (alongLeads, le-ltb (leadAt l at) at h)
+
+-- the entry itself at least
+pub along-some : (d : ℕ) (l : Entries) (at : ℕ) → 0 < length (alongLeads d l at)
+unfolding alongLeads
+along-some zero l at = omega arith
+along-some (suc d) l at = elim (decLt (leadAt l at) at) [
+  | yes h ↦ rw (along-more d l at h) (omega (arith, length-append (alongLeads d l (leadAt l at)) (entryAt l at ∷ [])))
+  | no f ↦ rw (along-end d l at (omega (arith, f))) (omega arith)
+]
 
 -- at most one for each place up to this one
 pub along-length : (d : ℕ) (l : Entries) (at : ℕ) → length (alongLeads d l at) ≤ suc at

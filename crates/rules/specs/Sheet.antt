@@ -116,6 +116,12 @@ unfoldable pub run : Board → List ℕ → List ℕ → Run
 run b s room = let a = firstOf (runTests b s room) in
     pick (done a) (wholeRun b s room (commandCount s)) (refusedRun a b room)
 
+-- an opening and the commands on it in one call: the refusal of the opening, or what running them on its board hands back
+unfoldable pub runOpening : ℕ → ℕ → ℕ → List ℕ → List ℕ → List ℕ → List ℕ → Run
+runOpening nodes processes objects processHome objectHome s room =
+    let opened = opening nodes processes objects processHome objectHome in
+    pick (done (opened .answer)) (run (opened .board) s room) (refusedRun (opened .answer) zeroBoard room)
+
 -- ---- the sheet
 abbrev pub afterHomes : List ℕ → List ℕ
 afterHomes s = drop (commandsStart s) s

@@ -17,7 +17,7 @@ use Rattle.rules.specs.Answers.{number, done, firstOf}
 use Rattle.rules.specs.Commands.{zeroBoard, outside, homeOutside, opening}
 use Rattle.rules.specs.Shape.{inShape}
 use Rattle.rules.specs.Sheet as Rules
-use Rattle.rules.specs.Sheet.{Run, nodesOf, processesOf, objectsOf, processHomes, objectHomes, commandCount, afterHomes, readerAnswer, commandsPart, refusedRun, sheetAnswer, openingOf, runSheet}
+use Rattle.rules.specs.Sheet.{Run, nodesOf, processesOf, objectsOf, processHomes, objectHomes, commandCount, afterHomes, readerAnswer, commandsPart, refusedRun, sheetAnswer, openingOf, runOpening, runSheet}
 use Rattle.rules.proofs.Sheet.{field-below}
 use Rattle.laws.proofs.Ranges.{passed}
 use Rattle.laws.proofs.Opening.{opening-in-shape}
@@ -70,9 +70,9 @@ module _ (s : List ℕ) where
     part-even = rw part-is (tests-passed .even)
 
     -- the bench runs the commands on the opening
-    runs : (room : List ℕ) → commandCount (commandsPart s) ≤ length room → Rules.run (openingOf s) (commandsPart s) room ≡ runSheet s room
-    unfolding runSheet sheetAnswer firstOf Rules.run
-    runs room l = rw (in-shape, part-even, le-ltb (length room) (commandCount (commandsPart s)) l, good)
+    runs : (room : List ℕ) → commandCount (commandsPart s) ≤ length room → runOpening (nodesOf s) (processesOf s) (objectsOf s) (processHomes s) (objectHomes s) (commandsPart s) room ≡ runSheet s room
+    unfolding runOpening runSheet sheetAnswer firstOf Rules.run
+    runs room l = rw (opens (tests-passed .processes) (tests-passed .objects), in-shape, part-even, le-ltb (length room) (commandCount (commandsPart s)) l, good)
 
     short : (room : List ℕ) → length room < commandCount (commandsPart s) → refusedRun RoomTooShort zeroBoard room ≡ runSheet s room
     unfolding runSheet sheetAnswer firstOf
@@ -105,9 +105,8 @@ module _ (s room : List ℕ) {h : Head} {a : Answer} {n : ℕ} (read : h ≡ hea
     pub run-short : length room < length part / 2 → {r : Ran} → r ≡ refusedRun RoomTooShort zeroBoard [] .ran → Runs s room r room
     run-short l f = let g = short s (whole-good e) room (rw p at l) in (f ∙ ap (λ (x : Run). x .ran) g, ap (λ (x : Run). x .room) g)
 
-    pub run-good : length part / 2 ≤ length room → {o : Stepped} → o ≡ opening (h .nodes) (h .processes) (h .objects) (h .«process_home») (h .«object_home»)
-        → {r : Ran} {after : List ℕ} → (r ≡ Rules.run (o .board) part room .ran) × (after ≡ Rules.run (o .board) part room .room) → Runs s room r after
-    run-good l {o} f x =
-        let b : o .board ≡ openingOf s = ap (λ (y : Stepped). y .board) f ∙ ap (λ (y : Head). opening (y .nodes) (y .processes) (y .objects) (y .«process_home») (y .«object_home») .board) read in
-        let g : Rules.run (o .board) part room ≡ runSheet s room = ap₂ (λ (y : Board) (z : List ℕ). Rules.run y z room) b p ∙ runs s (whole-good e) room (rw p at l) in
+    pub run-good : length part / 2 ≤ length room → {r : Ran} {after : List ℕ}
+        → (r ≡ runOpening (h .nodes) (h .processes) (h .objects) (h .«process_home») (h .«object_home») part room .ran) × (after ≡ runOpening (h .nodes) (h .processes) (h .objects) (h .«process_home») (h .«object_home») part room .room) → Runs s room r after
+    run-good l x =
+        let g : runOpening (h .nodes) (h .processes) (h .objects) (h .«process_home») (h .«object_home») part room ≡ runSheet s room = rw (read, p) (runs s (whole-good e) room (rw p at l)) in
         (x .0 ∙ ap (λ (y : Run). y .ran) g, x .1 ∙ ap (λ (y : Run). y .room) g)

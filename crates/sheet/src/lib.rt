@@ -65,15 +65,15 @@ pub fn run(s: &[u8], room: &mut [u8]) -> Ran
     }
     let process_home = h.process_home;
     let object_home = h.object_home;
-    let opened = bench::open(
+    bench::run_opening(
         h.nodes as u8,
         h.processes as u8,
         h.objects as u8,
         process_home,
         object_home,
-    );
-    let board = opened.board;
-    bench::run(board, part, room)
+        part,
+        room,
+    )
 }
 
 // How many bytes of an input of this length to keep: what is kept runs as the whole input does, however long that is.

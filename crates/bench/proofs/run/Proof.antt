@@ -11,14 +11,32 @@ use Rattle.bench.proofs.run.Tie as tie
 is-ready-requires : tie.Need-is-ready-requires
 is-ready-requires c κs = search needs
 
+refused-requires : tie.Need-refused-requires
+refused-requires c κs = search needs
+
 returns : tie.Need-returns
-returns c = let e = run-unshaped (c .before .before .before .before .args .b) (c .before .before .before .before .args .s .now) (c .before .before .before .before .args .room .now) (sym (c .before .is-ready .ensures .0) ∙ not-true _ (c .if1 .taken)) in (ap (λ (x : Run). x .ran) (sym e), ap (λ (x : Run). x .room) (sym e))
+returns c =
+    let a = c .before .before .before .before .before .args in
+    let e = run-unshaped (a .b) (a .s .now) (a .room .now) (sym (c .before .before .is-ready .ensures .0) ∙ not-true _ (c .before .if1 .taken)) in
+    (c .refused .ensures ∙ ap (λ (x : Run). x .ran) (sym e), ap (λ (x : Run). x .room) (sym e))
+
+refused-requires-2 : tie.Need-refused-requires-2
+refused-requires-2 c κs = search needs
 
 returns-2 : tie.Need-returns-2
-returns-2 c = let e = run-odd (c .before .before .before .before .before .args .b) (c .before .before .before .before .before .args .s .now) (c .before .before .before .before .before .args .room .now) (sym (c .before .before .is-ready .ensures .0) ∙ not-false _ (c .before .if1 .left)) (c .if2 .taken) in (ap (λ (x : Run). x .ran) (sym e), ap (λ (x : Run). x .room) (sym e))
+returns-2 c =
+    let a = c .before .before .before .before .before .before .args in
+    let e = run-odd (a .b) (a .s .now) (a .room .now) (sym (c .before .before .before .is-ready .ensures .0) ∙ not-false _ (c .before .before .if1 .left)) (c .before .if2 .taken) in
+    (c .refused2 .ensures ∙ ap (λ (x : Run). x .ran) (sym e), ap (λ (x : Run). x .room) (sym e))
+
+refused-requires-3 : tie.Need-refused-requires-3
+refused-requires-3 c κs = search needs
 
 returns-3 : tie.Need-returns-3
-returns-3 c = let e = run-short (c .before .before .before .before .before .before .args .b) (c .before .before .before .before .before .before .args .s .now) (c .before .before .before .before .before .before .args .room .now) (sym (c .before .before .before .is-ready .ensures .0) ∙ not-false _ (c .before .before .if1 .left)) (c .before .if2 .left) (c .if3 .taken) in (ap (λ (x : Run). x .ran) (sym e), ap (λ (x : Run). x .room) (sym e))
+returns-3 c =
+    let a = c .before .before .before .before .before .before .before .args in
+    let e = run-short (a .b) (a .s .now) (a .room .now) (sym (c .before .before .before .before .is-ready .ensures .0) ∙ not-false _ (c .before .before .before .if1 .left)) (c .before .before .if2 .left) (c .before .if3 .taken) in
+    (c .refused3 .ensures ∙ ap (λ (x : Run). x .ran) (sym e), ap (λ (x : Run). x .room) (sym e))
 
 turns-requires : tie.Need-turns-requires
 turns-requires c κs = (c .before .before .before .before .is-ready .ensures .1 (not-false _ (c .before .before .before .if1 .left)), for-sheet _ _ _ refl (c .before .if3 .left))
@@ -32,4 +50,14 @@ returns-4 c = let e = run-whole (c .before .before .before .before .before .befo
 pub run-spec : {M : Type 1} → statement M
 run-spec =
     tie.close
-    (tie.spec is-ready-requires returns returns-2 returns-3 turns-requires same-length returns-4)
+    (tie.spec
+    is-ready-requires
+    refused-requires
+    returns
+    refused-requires-2
+    returns-2
+    refused-requires-3
+    returns-3
+    turns-requires
+    same-length
+    returns-4)

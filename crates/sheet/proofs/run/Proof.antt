@@ -42,37 +42,34 @@ returns-2 c =
     run-short (a .s .now) (a .room .now) (n .before .before .read-head .ensures) (n .before .tested .ensures) (n .number .ensures) (c .before .before .before .if1 .left) part
     (c .before .if2 .taken) (c .refused2 .ensures)
 
-cast-open : tie.Need-cast-open
-cast-open c =
+cast-run-opening : tie.Need-cast-run-opening
+cast-run-opening c =
     let h = c .before .before .before .before .before .before .before .before in
     omega (arith, few-nodes (h .before .before .before .args .s .now) (h .read-head .ensures))
 
-cast-open-2 : tie.Need-cast-open-2
-cast-open-2 c =
+cast-run-opening-2 : tie.Need-cast-run-opening-2
+cast-run-opening-2 c =
     let h = c .before .before .before .before .before .before .before .before .before in
     omega (arith, few-homes (h .before .before .before .args .s .now) (h .read-head .ensures))
 
-cast-open-3 : tie.Need-cast-open-3
-cast-open-3 c =
+cast-run-opening-3 : tie.Need-cast-run-opening-3
+cast-run-opening-3 c =
     let h = c .before .before .before .before .before .before .before .before .before .before in
     omega (arith, few-homes (h .before .before .before .args .s .now) (h .read-head .ensures))
 
-open-requires : tie.Need-open-requires
-open-requires c κs = search needs
-
-run-requires : tie.Need-run-requires
-run-requires c κs = search needs
+run-opening-requires : tie.Need-run-opening-requires
+run-opening-requires c κs = search needs
 
 same-length : tie.Need-same-length
 same-length c = search needs
 
 returns-3 : tie.Need-returns-3
 returns-3 c =
-    let n = c .before .before .before .before .before .before .before .before .before .before .before .before .before .before in
+    let n = c .before .before .before .before .before .before .before .before .before .before .before .before in
     let a = n .before .before .before .before .before .args in
-    let part = rest-of-good (a .s .now) (n .before .before .read-head .ensures) (n .before .tested .ensures) (n .number .ensures) (c .before .before .before .before .before .before .before .before .before .before .before .before .before .if1 .left) (c .before .before .before .before .before .before .before .before .before .before .before .before .rest-from .ensures) in
-    run-good (a .s .now) (a .room .now) (n .before .before .read-head .ensures) (n .before .tested .ensures) (n .number .ensures) (c .before .before .before .before .before .before .before .before .before .before .before .before .before .if1 .left) part
-    (c .before .before .before .before .before .before .before .before .before .before .before .if2 .left) (c .before .before .before .before .before .«open» .ensures) (c .before .before .run .ensures)
+    let g = c .before .before .before .before .before .before .before .before .before .before .before .if1 .left in
+    let part = rest-of-good (a .s .now) (n .before .before .read-head .ensures) (n .before .tested .ensures) (n .number .ensures) g (c .before .before .before .before .before .before .before .before .before .before .rest-from .ensures) in
+    run-good (a .s .now) (a .room .now) (n .before .before .read-head .ensures) (n .before .tested .ensures) (n .number .ensures) g part (c .before .before .before .before .before .before .before .before .before .if2 .left) (c .before .before .run-opening .ensures)
 
 pub run-spec : {M : Type 1} → statement M
 run-spec =
@@ -87,10 +84,9 @@ run-spec =
     rest-from-requires
     refused-requires-2
     returns-2
-    cast-open
-    cast-open-2
-    cast-open-3
-    open-requires
-    run-requires
+    cast-run-opening
+    cast-run-opening-2
+    cast-run-opening-3
+    run-opening-requires
     same-length
     returns-3)

@@ -15,7 +15,7 @@ use Rattle.rules.proofs.Object as ObjectField
 use Rattle.rules.proofs.Entries as EntriesField
 use Rattle.rules.proofs.Ring as RingField
 use Rattle.laws.specs.Shape.{Sized}
-use Rattle.laws.proofs.Shape.{shape-said}
+use Rattle.bench.proofs.Ready.{shape-ready}
 use Rattle.bench.proofs.guard.is_ready.Statement.{statement}
 use Rattle.bench.proofs.guard.is_ready.Tie as tie
 
@@ -48,7 +48,7 @@ in-shape-requires : tie.Need-in-shape-requires
 in-shape-requires c κs = search needs
 
 returns : tie.Need-returns
-returns c = (c .in-shape .ensures, λ e. let s = sized (c .before) in let i = sym (c .in-shape .ensures) ∙ e in record { ranged = shape-said .ranged (c .before .args .b) s i; matched = shape-said .shaped (c .before .args .b) s i .records .flying })
+returns c = (c .in-shape .ensures, λ e. shape-ready (c .before .args .b) (sized (c .before)) (sym (c .in-shape .ensures) ∙ e))
 
 pub is-ready-spec : {M : Type 1} → statement M
 is-ready-spec = tie.close (tie.spec in-shape-requires returns)

@@ -9,11 +9,11 @@ use Rattle.bench.proofs.packed.asked_of.Tie as tie
 wide-requires : tie.Need-wide-requires
 wide-requires c κs = search needs
 
-element-copy-out-result : tie.Need-element-copy-out-result
-element-copy-out-result c = search needs
+array-read-result : tie.Need-array-read-result
+array-read-result c = search needs
 
 returns : tie.Need-returns
-returns c = let e = ap (λ (i : ℕ). getD (c .before .before .args .t1 .who) i 0) (c .before .wide .ensures .0) in (e, rw e (c .before .before .pre .who (c .before .before .args .t1 .next)))
+returns c = let e = ap (λ (i : ℕ). getD (c .before .before .args .l .who) i 0) (c .before .wide .ensures .0) in (e, rw e (c .before .before .pre .who (c .before .before .args .l .next)))
 
 pub asked-of-spec : {M : Type 1} → statement M
-asked-of-spec = tie.close (tie.spec wide-requires element-copy-out-result returns)
+asked-of-spec = tie.close (tie.spec wide-requires array-read-result returns)

@@ -1,12 +1,8 @@
 -- `along_leads` meets its contract, by induction on the place, which falls at each call.
-use mathlib.Core.Path.{_≡_, sym, ap, _∙_}
-use native.Mathlib.Omega.{arith}
-use Rattle.books.proofs.Rings.{unled, ring-extended, back}
-use Rattle.rules.proofs.Lists.{along-length}
-use Rattle.rules.specs.Lists.{ringOf, leadAt, entryAt}
-use borrow.Author.Tests.{le-ltb}
-use mathlib.Core.List.{[]}
-use Prim.Native.Nat.{_≤_, ℕ, _<_}
+use mathlib.Core.Path.{_∙_}
+use mathlib.Core.Logic.{⊎-elim}
+use Prim.Native.Nat.{ℕ, _<_}
+use Rattle.books.proofs.Rings.{Leads, along-lead, at-start}
 use borrow.Author.Needs.{needs}
 use borrow.Fn.Kinds.{In}
 use borrow.Fn.PlainCycle.{Measures, is, falls, and}
@@ -30,27 +26,27 @@ abbrev along-leads-below : ℕ → In 0 along-leads-kinds.ps
 along-leads-below t =
     and 0 along-leads-kinds.ps (falls 0 along-leads-kinds.ps _<_ μ-along-leads t) along-leads.Pre
 
-along-leads-element-copy-out-wide : (t : ℕ) → along-leads-lts.Need-element-copy-out-wide (
+along-leads-array-read-wide : (t : ℕ) → along-leads-lts.Need-array-read-wide (
   wide-reads.Asked,
   wide-reads.Learnt,
   no-ring-reads.Asked,
   no-ring-reads.Learnt,
-  extended-reads.Asked,
-  extended-reads.Learnt,
   along-leads-below t,
   along-leads.Post,
+  extended-reads.Asked,
+  extended-reads.Learnt,
 ) (along-leads-at t) along-leads.Post
-along-leads-element-copy-out-wide t c = search needs
+along-leads-array-read-wide t c = search needs
 
 along-leads-wide-requires : (t : ℕ) → along-leads-lts.Need-wide-requires (
   wide-reads.Asked,
   wide-reads.Learnt,
   no-ring-reads.Asked,
   no-ring-reads.Learnt,
-  extended-reads.Asked,
-  extended-reads.Learnt,
   along-leads-below t,
   along-leads.Post,
+  extended-reads.Asked,
+  extended-reads.Learnt,
 ) (along-leads-at t) along-leads.Post
 along-leads-wide-requires t c κs = search needs
 
@@ -59,112 +55,80 @@ along-leads-no-ring-requires : (t : ℕ) → along-leads-lts.Need-no-ring-requir
   wide-reads.Learnt,
   no-ring-reads.Asked,
   no-ring-reads.Learnt,
-  extended-reads.Asked,
-  extended-reads.Learnt,
   along-leads-below t,
   along-leads.Post,
+  extended-reads.Asked,
+  extended-reads.Learnt,
 ) (along-leads-at t) along-leads.Post
 along-leads-no-ring-requires t c κs = search needs
-
-along-leads-element-copy-out-extended : (t : ℕ) → along-leads-lts.Need-element-copy-out-extended (
-  wide-reads.Asked,
-  wide-reads.Learnt,
-  no-ring-reads.Asked,
-  no-ring-reads.Learnt,
-  extended-reads.Asked,
-  extended-reads.Learnt,
-  along-leads-below t,
-  along-leads.Post,
-) (along-leads-at t) along-leads.Post
-along-leads-element-copy-out-extended t c = search needs
-
-along-leads-extended-requires : (t : ℕ) → along-leads-lts.Need-extended-requires (
-  wide-reads.Asked,
-  wide-reads.Learnt,
-  no-ring-reads.Asked,
-  no-ring-reads.Learnt,
-  extended-reads.Asked,
-  extended-reads.Learnt,
-  along-leads-below t,
-  along-leads.Post,
-) (along-leads-at t) along-leads.Post
-along-leads-extended-requires t c κs = omega (arith, ap (λ r. r .count) (c .before .no-ring .ensures))
-
-along-leads-returns : (t : ℕ) → along-leads-lts.Need-returns (
-  wide-reads.Asked,
-  wide-reads.Learnt,
-  no-ring-reads.Asked,
-  no-ring-reads.Learnt,
-  extended-reads.Asked,
-  extended-reads.Learnt,
-  along-leads-below t,
-  along-leads.Post,
-) (along-leads-at t) along-leads.Post
-along-leads-returns t c =
-    let a = c .before .before .before .before .before .before .args in
-    let w = c .before .before .before .before .wide in
-    let e : w .result ≡ leadAt (a .t1) (a .at) = w .ensures .0 in
-    let h : a .at ≤ leadAt (a .t1) (a .at) = omega (arith, c .before .before .before .if1 .taken, e) in
-    c .extended .ensures ∙ rw (c .before .before .no-ring .ensures) (ring-extended [] (entryAt (a .t1) (a .at)) (omega arith) ∙ ap ringOf (sym (unled (a .t1) (a .at) (a .at) (le-ltb (leadAt (a .t1) (a .at)) (a .at) h))))
 
 along-leads-along-leads-requires : (t : ℕ) → along-leads-lts.Need-along-leads-requires (
   wide-reads.Asked,
   wide-reads.Learnt,
   no-ring-reads.Asked,
   no-ring-reads.Learnt,
-  extended-reads.Asked,
-  extended-reads.Learnt,
   along-leads-below t,
   along-leads.Post,
+  extended-reads.Asked,
+  extended-reads.Learnt,
 ) (along-leads-at t) along-leads.Post
 along-leads-along-leads-requires t c κs = search needs
 
-along-leads-element-copy-out-extended-2 :
-    (t : ℕ) → along-leads-lts.Need-element-copy-out-extended-2 (
-      wide-reads.Asked,
-      wide-reads.Learnt,
-      no-ring-reads.Asked,
-      no-ring-reads.Learnt,
-      extended-reads.Asked,
-      extended-reads.Learnt,
-      along-leads-below t,
-      along-leads.Post,
-    ) (along-leads-at t) along-leads.Post
-along-leads-element-copy-out-extended-2 t c = search needs
-
-along-leads-extended-requires-2 : (t : ℕ) → along-leads-lts.Need-extended-requires-2 (
+along-leads-array-read-extended : (t : ℕ) → along-leads-lts.Need-array-read-extended (
   wide-reads.Asked,
   wide-reads.Learnt,
   no-ring-reads.Asked,
   no-ring-reads.Learnt,
-  extended-reads.Asked,
-  extended-reads.Learnt,
   along-leads-below t,
   along-leads.Post,
+  extended-reads.Asked,
+  extended-reads.Learnt,
 ) (along-leads-at t) along-leads.Post
-along-leads-extended-requires-2 t c κs =
-    let a = c .before .before .before .before .before .args in
-    let w = c .before .before .before .wide in
-    omega (arith, ap (λ r. r .count) (c .before .along-leads .ensures), along-length (w .result) (a .t1) (w .result), c .before .before .if1 .left)
+along-leads-array-read-extended t c = search needs
 
-along-leads-returns-2 : (t : ℕ) → along-leads-lts.Need-returns-2 (
+-- by either way the ring so far, and then the entry's process, is the ring to the entry
+led-here : (t : ℕ) (c : along-leads-lts.Joined1 (
   wide-reads.Asked,
   wide-reads.Learnt,
   no-ring-reads.Asked,
   no-ring-reads.Learnt,
-  extended-reads.Asked,
-  extended-reads.Learnt,
   along-leads-below t,
   along-leads.Post,
+  extended-reads.Asked,
+  extended-reads.Learnt,
+) (along-leads-at t) along-leads.Post)
+    → (let a = c .before .before .before .before .before .args in Leads (a .l) (a .at) (c .if1 .ring))
+led-here t c =
+    let s = c .before .before .before .before .before in
+    let w = c .before .before .wide in
+    ⊎-elim
+    (λ x. along-lead (s .args .l) (s .args .at) (s .pre .1) (w .result) (w .ensures .0) _ (x .0 .taken) (x .2 ∙ x .1 .ensures))
+    (λ x. at-start (s .args .l) (s .args .at) (s .pre .1) (w .result) (w .ensures .0) _ (x .0 .left) (x .1 ∙ c .before .no-ring .ensures))
+    (c .if1 .came)
+
+along-leads-extended-requires : (t : ℕ) → along-leads-lts.Need-extended-requires (
+  wide-reads.Asked,
+  wide-reads.Learnt,
+  no-ring-reads.Asked,
+  no-ring-reads.Learnt,
+  along-leads-below t,
+  along-leads.Post,
+  extended-reads.Asked,
+  extended-reads.Learnt,
 ) (along-leads-at t) along-leads.Post
-along-leads-returns-2 t c =
-    let s = c .before .before .before .before .before .before in
-    let a = s .args in
-    let w = c .before .before .before .before .wide in
-    let e : w .result ≡ leadAt (a .t1) (a .at) = w .ensures .0 in
-    let h : leadAt (a .t1) (a .at) < a .at = omega (arith, c .before .before .before .if1 .left, e) in
-    let p : a .at < 16 = s .pre .1 in
-    c .extended2 .ensures ∙ rw (c .before .before .along-leads .ensures, e) (back (a .t1) (a .at) h p)
+along-leads-extended-requires t c κs = led-here t c .0
+
+along-leads-returns : (t : ℕ) → along-leads-lts.Need-returns (
+  wide-reads.Asked,
+  wide-reads.Learnt,
+  no-ring-reads.Asked,
+  no-ring-reads.Learnt,
+  along-leads-below t,
+  along-leads.Post,
+  extended-reads.Asked,
+  extended-reads.Learnt,
+) (along-leads-at t) along-leads.Post
+along-leads-returns t c = c .extended .ensures ∙ led-here t (c .before) .1
 
 pub +along-leads-spec : {M : Type 1} → statement M
 +along-leads-spec = close μ-along-leads λ t. along-leads-lts.spec (
@@ -172,20 +136,17 @@ pub +along-leads-spec : {M : Type 1} → statement M
   wide-reads.Learnt,
   no-ring-reads.Asked,
   no-ring-reads.Learnt,
-  extended-reads.Asked,
-  extended-reads.Learnt,
   along-leads-below t,
   along-leads.Post,
+  extended-reads.Asked,
+  extended-reads.Learnt,
 )
     (along-leads-at t)
     along-leads.Post
-    (along-leads-element-copy-out-wide t)
+    (along-leads-array-read-wide t)
     (along-leads-wide-requires t)
     (along-leads-no-ring-requires t)
-    (along-leads-element-copy-out-extended t)
+    (along-leads-along-leads-requires t)
+    (along-leads-array-read-extended t)
     (along-leads-extended-requires t)
     (along-leads-returns t)
-    (along-leads-along-leads-requires t)
-    (along-leads-element-copy-out-extended-2 t)
-    (along-leads-extended-requires-2 t)
-    (along-leads-returns-2 t)

@@ -6,35 +6,20 @@ use borrow.Author.Needs.{needs}
 use Rattle.books.proofs.list.bars.Statement.{statement}
 use Rattle.books.proofs.list.bars.Tie as tie
 
-wide-requires : tie.Need-wide-requires
-wide-requires c κs = search needs
-
-element-copy-out-if1 : tie.Need-element-copy-out-if1
-element-copy-out-if1 c = search needs
-
 returns : tie.Need-returns
-returns c = rw (eq-eqb _ _ (rw (c .before .before .wide .ensures .0) at (c .if1 .taken)))
+returns c = rw (eq-eqb _ _ (c .if1 .taken))
 
 is-exclusive-requires : tie.Need-is-exclusive-requires
 is-exclusive-requires c κs = search needs
 
 returns-2 : tie.Need-returns-2
-returns-2 c = rw (ne-eqb _ _ (rw (c .before .before .before .before .wide .ensures .0) at (c .before .before .if1 .left)), sym (c .before .is-exclusive .ensures) ∙ c .if2 .taken)
+returns-2 c = rw (ne-eqb _ _ (c .before .before .if1 .left), sym (c .before .is-exclusive .ensures) ∙ c .if2 .taken)
 
 has-requires : tie.Need-has-requires
 has-requires c κs = search needs
 
 returns-3 : tie.Need-returns-3
-returns-3 c = rw (ne-eqb _ _ (rw (c .before .before .before .before .before .wide .ensures .0) at (c .before .before .before .if1 .left)), sym (c .before .before .is-exclusive .ensures) ∙ c .before .if2 .left, exclusive-if) (c .has .ensures)
+returns-3 c = rw (ne-eqb _ _ (c .before .before .before .if1 .left), sym (c .before .before .is-exclusive .ensures) ∙ c .before .if2 .left, exclusive-if) (c .has .ensures)
 
 pub bars-spec : {M : Type 1} → statement M
-bars-spec =
-    tie.close
-    (tie.spec
-    wide-requires
-    element-copy-out-if1
-    returns
-    is-exclusive-requires
-    returns-2
-    has-requires
-    returns-3)
+bars-spec = tie.close (tie.spec returns is-exclusive-requires returns-2 has-requires returns-3)

@@ -6,14 +6,14 @@ use Rattle.books.proofs.list.extended.Tie as tie
 wide-requires : tie.Need-wide-requires
 wide-requires c κs = search needs
 
-element-write-next : tie.Need-element-write-next
-element-write-next c = search needs
+array-write-processes : tie.Need-array-write-processes
+array-write-processes c = search needs
 
-add-next : tie.Need-add-next
-add-next c = search needs
+add-t9 : tie.Need-add-t9
+add-t9 c = search needs
 
 returns : tie.Need-returns
-returns c = rw (c .wide .ensures .0)
+returns c = rw (c .before .wide .ensures .0)
 
 pub extended-spec : {M : Type 1} → statement M
-extended-spec = tie.close (tie.spec wide-requires element-write-next add-next returns)
+extended-spec = tie.close (tie.spec wide-requires array-write-processes add-t9 returns)

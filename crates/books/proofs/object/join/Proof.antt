@@ -11,18 +11,18 @@ wide-requires c κs = search needs
 is-exclusive-requires : tie.Need-is-exclusive-requires
 is-exclusive-requires c κs = search needs
 
-element-write-next : tie.Need-element-write-next
-element-write-next c = search needs
+array-write-line : tie.Need-array-write-line
+array-write-line c = search needs
 
 marked-requires : tie.Need-marked-requires
 marked-requires c κs = search needs
 
-add-next : tie.Need-add-next
-add-next c = search needs
+add-t13 : tie.Need-add-t13
+add-t13 c = search needs
 
 returns : tie.Need-returns
 unfolding joined
-returns c = rw (lt-ltb _ _ (c .before .before .before .if1 .taken), c .before .before .wide .ensures .0, c .marked .ensures, c .before .is-exclusive .ensures)
+returns c = rw (lt-ltb _ _ (c .before .before .before .before .if1 .taken), c .before .before .before .wide .ensures .0, c .marked .ensures, c .before .before .is-exclusive .ensures)
 
 returns-2 : tie.Need-returns-2
 unfolding joined
@@ -34,8 +34,8 @@ join-spec =
     (tie.spec
     wide-requires
     is-exclusive-requires
-    element-write-next
+    array-write-line
     marked-requires
-    add-next
+    add-t13
     returns
     returns-2)

@@ -13,7 +13,8 @@ use Rattle.rules.specs.Board.{with, noObject, objectAt, putObject}
 use Rattle.rules.specs.Commands.{delivered}
 use Rattle.rules.specs.Ranges.{LineRanged}
 use Rattle.bench.specs.Grants.{grantsLeft}
-use Rattle.bench.proofs.Sends.{read-at, release-arrives}
+use Rattle.bench.proofs.Sends.{read-at}
+use Rattle.bench.proofs.Arrivals.{release-arrives}
 use Rattle.bench.proofs.Releases.{line-is, struck-line, granted-line, none-granted, LetIn, first-granted}
 use Rattle.bench.proofs.engine.turns.Tie as tie
 use Rattle.bench.proofs.engine.turns.Proof.Loop.{Inv-loop, μ-loop, ready, less, again}
@@ -83,51 +84,51 @@ mul-struck c = search needs
 pub element-set-from-struck : tie.Need-element-set-from-struck Inv-loop μ-loop
 element-set-from-struck c = omega (arith, index-small (c .before .before))
 
-pub loop-less-9 : tie.Need-loop-less-9 Inv-loop μ-loop
-loop-less-9 c = less (c .before .before .before .before .before .before .before .before .before .before .before .before .before .before .before .before .before)
+pub loop-less-10 : tie.Need-loop-less-10 Inv-loop μ-loop
+loop-less-10 c = less (c .before .before .before .before .before .before .before .before .before .before .before .before .before .before .before .before .before)
 
 -- ---- nobody is let in
-pub loop-again-9 : tie.Need-loop-again-9 Inv-loop μ-loop
-loop-again-9 c =
+pub loop-again-10 : tie.Need-loop-again-10 Inv-loop μ-loop
+loop-again-10 c =
     let d = c .before .before in
     let t = c .before .before .before .before .before .before .before .before in
     again (turnTook t) 0 (delivered (before t) (numOf t)) (taking t) _ (weightLeft t)
-    (none-granted (freedNow t) (weightLeft t) (weight-left t) (d .before .before .wide7 .result) (index-small d) (ready (turnTook t) .ranged .objects) (d .strike .result) (same-count d) (delivered (before t) (numOf t)) (arrives d) (sym (c .before .front-goes .ensures) ∙ not-true _ (c .if7 .taken)))
+    (none-granted (freedNow t) (weightLeft t) (weight-left t) (d .before .before .wide7 .result) (index-small d) (ready (turnTook t) .ranged .objects) (d .strike .result) (same-count d) (delivered (before t) (numOf t)) (arrives d) (sym (c .before .front-goes .ensures) ∙ not-true _ (c .if8 .taken)))
 
 -- ---- the front is let in
 pub front-granted-requires : tie.Need-front-granted-requires Inv-loop μ-loop
 front-granted-requires c κs = struck-ranged (c .before .before)
 
-pub mul-book-3 : tie.Need-mul-book-3 Inv-loop μ-loop
-mul-book-3 c = search needs
+pub mul-book-2 : tie.Need-mul-book-2 Inv-loop μ-loop
+mul-book-2 c = search needs
 
-pub element-set-from-book-2 : tie.Need-element-set-from-book-2 Inv-loop μ-loop
-element-set-from-book-2 c = omega (arith, index-small (c .before .before .before))
+pub element-set-from-book : tie.Need-element-set-from-book Inv-loop μ-loop
+element-set-from-book c = omega (arith, index-small (c .before .before .before))
 
 pub front-grant-requires : tie.Need-front-grant-requires Inv-loop μ-loop
 front-grant-requires c κs = search needs
 
-pub mul-flight-3 : tie.Need-mul-flight-3 Inv-loop μ-loop
-mul-flight-3 c = search needs
+pub mul-flight-4 : tie.Need-mul-flight-4 Inv-loop μ-loop
+mul-flight-4 c = search needs
 
-pub element-set-from-flight-3 : tie.Need-element-set-from-flight-3 Inv-loop μ-loop
-element-set-from-flight-3 c = omega (arith, to-small (c .before .before .before .before .before .before .before .before .before .before))
+pub element-set-from-flight-4 : tie.Need-element-set-from-flight-4 Inv-loop μ-loop
+element-set-from-flight-4 c = omega (arith, to-small (c .before .before .before .before .before .before .before .before .before .before))
 
-pub mul-none-3 : tie.Need-mul-none-3 Inv-loop μ-loop
-mul-none-3 c = search needs
+pub mul-none-4 : tie.Need-mul-none-4 Inv-loop μ-loop
+mul-none-4 c = search needs
 
-pub element-set-from-none-3 : tie.Need-element-set-from-none-3 Inv-loop μ-loop
-element-set-from-none-3 c = omega (arith, to-small (c .before .before .before .before .before .before .before .before .before .before))
+pub element-set-from-none-4 : tie.Need-element-set-from-none-4 Inv-loop μ-loop
+element-set-from-none-4 c = omega (arith, to-small (c .before .before .before .before .before .before .before .before .before .before))
 
-pub cast-with-3 : tie.Need-cast-with-3 Inv-loop μ-loop
-cast-with-3 c = search needs
+pub cast-with-4 : tie.Need-cast-with-4 Inv-loop μ-loop
+cast-with-4 c = search needs
 
-pub with-requires-3 : tie.Need-with-requires-3 Inv-loop μ-loop
-with-requires-3 c κs = omega (arith, to-small (c .before .before .before .before .before .before .before .before .before .before))
+pub with-requires-4 : tie.Need-with-requires-4 Inv-loop μ-loop
+with-requires-4 c κs = omega (arith, to-small (c .before .before .before .before .before .before .before .before .before .before))
 
 -- its grant is on its way
 abbrev First : Type 0
-First = tie.After-with3 Inv-loop μ-loop
+First = tie.After-with4 Inv-loop μ-loop
 
 next-ranged : (g : First) → LineRanged (g .before .before .front-granted .result)
 next-ranged g = line-is (g .before .before .front-granted .result) _ (g .before .before .front-granted .ensures) (granted-line (g .before .before .before .before .before .strike .result) (struck-ranged (g .before .before .before .before .before)))
@@ -139,28 +140,28 @@ abbrev granted : First → Board
 granted g =
     let t = g .before .before .before .before .before .before .before .before .before .before .before in
     let y = freedNow t in
-    with y (y .processes) (set (y .objects) (g .before .before .before .before .before .before .before .wide7 .result) (g .before .before .front-granted .result)) (g .with3 .result) (set (y .flights) (toOf t) (record { kind = g .before .front-grant .result })) (set (y .lists) (toOf t) (noneOf t)) (y .rings)
+    with y (y .processes) (set (y .objects) (g .before .before .before .before .before .before .before .wide7 .result) (g .before .before .front-granted .result)) (g .with4 .result) (set (y .flights) (toOf t) (record { kind = g .before .front-grant .result })) (set (y .lists) (toOf t) (noneOf t)) (y .rings)
 
 first : (g : First) → LetIn (granted g) (weightLeft (tookFirst g)) (g .before .before .before .before .before .before .before .before .before .sort3 .given .0 .1 .0) (g .before .before .front-granted .result) (delivered (before (tookFirst g)) (numOf (tookFirst g)))
 first g =
     let d = g .before .before .before .before .before in
     let t = g .before .before .before .before .before .before .before .before .before .before .before in
     first-granted (freedNow t) (weightLeft t) (weight-left t) (d .before .before .wide7 .result) (index-small d) (ready (turnTook t) .ranged .objects) (d .strike .result) (same-count d) (delivered (before t) (numOf t)) (arrives d)
-    (sym (g .before .before .before .before .front-goes .ensures) ∙ not-false _ (g .before .before .before .if7 .left)) (d .before .before .before .before .sort3 .given .0 .1 .0) (d .before .before .wide7 .ensures .0) (g .before .before .front-granted .result) (g .before .before .front-granted .ensures) (g .before .front-grant .result) (g .before .front-grant .ensures) (noneOf t) (t .before .before .before .before .before .before .before .before .before .before .before .before .before .before .before .before .before .no-entries .ensures)
-    (freed-flights t) (freed-matched t) (toOf t) (g .with3 .result) (t .lowest-free2 .ensures .0) (g .with3 .ensures) (to-small t)
+    (sym (g .before .before .before .before .front-goes .ensures) ∙ not-false _ (g .before .before .before .if8 .left)) (d .before .before .before .before .sort3 .given .0 .1 .0) (d .before .before .wide7 .ensures .0) (g .before .before .front-granted .result) (g .before .before .front-granted .ensures) (g .before .front-grant .result) (g .before .front-grant .ensures) (noneOf t) (t .before .before .before .before .before .before .before .before .before .before .before .before .before .before .before .before .before .no-entries .ensures)
+    (freed-flights t) (freed-matched t) (toOf t) (g .with4 .result) (t .lowest-free2 .ensures .0) (g .with4 .ensures) (to-small t)
 
 pub front-goes-requires-2 : tie.Need-front-goes-requires-2 Inv-loop μ-loop
 front-goes-requires-2 c κs = next-ranged (c)
 
-pub loop-less-10 : tie.Need-loop-less-10 Inv-loop μ-loop
-loop-less-10 c = less (c .before .before .before .before .before .before .before .before .before .before .before .before .before .before .before .before .before .before .before .before .before .before)
+pub loop-less-11 : tie.Need-loop-less-11 Inv-loop μ-loop
+loop-less-11 c = less (c .before .before .before .before .before .before .before .before .before .before .before .before .before .before .before .before .before .before .before .before .before .before)
 
-pub loop-again-10 : tie.Need-loop-again-10 Inv-loop μ-loop
-loop-again-10 c =
+pub loop-again-11 : tie.Need-loop-again-11 Inv-loop μ-loop
+loop-again-11 c =
     let g = c .before .before in
     let t = c .before .before .before .before .before .before .before .before .before .before .before .before .before in
     again (turnTook t) 0 (delivered (before t) (numOf t)) (taking t) _ (weightLeft t)
-    (first g .ends (sym (c .before .front-goes2 .ensures) ∙ not-true _ (c .if8 .taken)))
+    (first g .ends (sym (c .before .front-goes2 .ensures) ∙ not-true _ (c .if9 .taken)))
 
 -- ---- and the next after it, on the whole board
 pub grant-rest-requires : tie.Need-grant-rest-requires Inv-loop μ-loop
@@ -171,11 +172,11 @@ grant-rest-requires c κs =
 pub load-requires-2 : tie.Need-load-requires-2 Inv-loop μ-loop
 load-requires-2 c κs = search needs
 
-pub loop-less-11 : tie.Need-loop-less-11 Inv-loop μ-loop
-loop-less-11 c = less (c .before .before .before .before .before .before .before .before .before .before .before .before .before .before .before .before .before .before .before .before .before .before .before .before)
+pub loop-less-12 : tie.Need-loop-less-12 Inv-loop μ-loop
+loop-less-12 c = less (c .before .before .before .before .before .before .before .before .before .before .before .before .before .before .before .before .before .before .before .before .before .before .before .before)
 
-pub loop-again-11 : tie.Need-loop-again-11 Inv-loop μ-loop
-loop-again-11 c =
+pub loop-again-12 : tie.Need-loop-again-12 Inv-loop μ-loop
+loop-again-12 c =
     let g = c .before .before .before .before in
     let t = c .before .before .before .before .before .before .before .before .before .before .before .before .before .before .before in
     again (turnTook t) 0 (delivered (before t) (numOf t)) (taking t) (c .before .grant-rest .result) (c .load2 .result)

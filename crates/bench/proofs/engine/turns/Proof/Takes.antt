@@ -17,7 +17,8 @@ use Rattle.rules.specs.Commands.{delivered}
 use Rattle.rules.specs.Ranges.{KindRanged, ListRanged}
 use Rattle.rules.proofs.Sheet.{ofBytes}
 use Rattle.rules.proofs.Load.{Matched, matched-freed, load-process}
-use Rattle.bench.proofs.Sends.{read-at, one-free, freed-from, same-matched, freed-fits, freed-weight, nothing-arrives, grant-arrives}
+use Rattle.bench.proofs.Sends.{read-at, one-free, freed-from, same-matched, freed-fits, freed-weight}
+use Rattle.bench.proofs.Arrivals.{nothing-arrives, grant-arrives}
 use Rattle.bench.proofs.Turns.{Turns, absent, present}
 use Rattle.bench.proofs.engine.turns.Tie as tie
 use Rattle.bench.proofs.engine.turns.Proof.Loop.{Inv-loop, μ-loop, Turn, boardNow, weightNow, hiOf, loOf, going, hi-small, ready, weight-most, less, again, place-small}
@@ -126,6 +127,9 @@ listOf t = getD (before t .lists) (t .before .before .before .before .before .wi
 abbrev pub noneOf : Took → Entries
 noneOf t = t .before .before .before .before .before .before .before .before .before .before .before .before .before .before .before .before .before .no-entries .result
 
+pub none-is : (t : Took) → noneOf t ≡ noEntries
+none-is t = t .before .before .before .before .before .before .before .before .before .before .before .before .before .before .before .before .before .no-entries .ensures
+
 -- the board and the load without the message
 abbrev pub freedNow : Took → Board
 freedNow t = with (before t) (before t .processes) (before t .objects) (t .before .without .result) (set (before t .flights) (t .before .before .before .before .before .wide2 .result) noFlight) (set (before t .lists) (t .before .before .before .before .before .wide2 .result) (noneOf t)) (before t .rings)
@@ -146,7 +150,7 @@ pub list-ranged : (t : Took) → ListRanged (listOf t)
 list-ranged t = rw (list-is t) (ready (turnTook t) .ranged .entries (numOf t))
 
 pub freed-is : (t : Took) → freedNow t ≡ freed (before t) (numOf t)
-freed-is t = freed-from (before t) (numOf t) (t .before .before .before .before .before .wide2 .result) (t .before .without .result) (noneOf t) (t .before .before .before .before .before .wide2 .ensures .0) (t .before .without .ensures) (t .before .before .before .before .before .before .before .before .before .before .before .before .before .before .before .before .before .no-entries .ensures)
+freed-is t = freed-from (before t) (numOf t) (t .before .before .before .before .before .wide2 .result) (t .before .without .result) (noneOf t) (t .before .before .before .before .before .wide2 .ensures .0) (t .before .without .ensures) (none-is t)
 
 pub freed-matched : (t : Took) → Matched (freedNow t)
 freed-matched t = same-matched (freedNow t) (freed (before t) (numOf t)) (freed-is t) (matched-freed (before t) (numOf t) (ready (turnTook t) .matched))
@@ -210,11 +214,11 @@ mul-process-2 c = search needs
 pub element-set-from-process-2 : tie.Need-element-set-from-process-2 Inv-loop μ-loop
 element-set-from-process-2 c = omega (arith, grant-ranged (c .before .before .before) .0, c .before .before .wide6 .ensures .0)
 
-pub loop-less-8 : tie.Need-loop-less-8 Inv-loop μ-loop
-loop-less-8 c = less (c .before .before .before .before .before .before .before .before .before .before .before .before .before .before .before)
+pub loop-less-9 : tie.Need-loop-less-9 Inv-loop μ-loop
+loop-less-9 c = less (c .before .before .before .before .before .before .before .before .before .before .before .before .before .before .before)
 
-pub loop-again-8 : tie.Need-loop-again-8 Inv-loop μ-loop
-loop-again-8 c =
+pub loop-again-9 : tie.Need-loop-again-9 Inv-loop μ-loop
+loop-again-9 c =
     let t = c .before .before .before .before .before .before in
     again (turnTook t) 0 (delivered (before t) (numOf t)) (taking t) (putProcess (freedNow t) (c .before .before .wide6 .result) (c .granted .result)) (weightLeft t)
     (record {
