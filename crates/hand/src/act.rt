@@ -21,18 +21,16 @@ pub struct Acted {
     pub next: Next,
 }
 
+fn followed_by(desk: Desk, next: Next) -> Acted {
+    Acted { desk, next }
+}
+
 fn stay(desk: Desk) -> Acted {
-    Acted {
-        desk,
-        next: Next::Stay,
-    }
+    followed_by(desk, Next::Stay)
 }
 
 fn keep(desk: Desk) -> Acted {
-    Acted {
-        desk,
-        next: Next::Keep,
-    }
+    followed_by(desk, Next::Keep)
 }
 
 fn is_done(a: Answer) -> bool {
@@ -228,17 +226,12 @@ pub fn act(desk: Desk, plan: Plan) -> Acted {
                 crate::show::rings(b);
             }
         }
+        What::Help => crate::say::help(),
         What::Undo => {
-            return Acted {
-                desk,
-                next: Next::Back,
-            };
+            return followed_by(desk, Next::Back);
         }
         What::Quit => {
-            return Acted {
-                desk,
-                next: Next::Stop,
-            };
+            return followed_by(desk, Next::Stop);
         }
     }
     stay(desk)

@@ -7,14 +7,14 @@ mod plan;
 mod put;
 mod say;
 mod show;
+mod undo;
 mod waits;
 
-ghost use Prim.Native.Nat.{_<_, _≤_};
 use act::Acted;
 use act::Next;
 use desk::Desk;
 use lines::Feed;
-use typed::Typed;
+use undo::Kept;
 
 // No board is open yet: all zeros.
 fn closed() -> Desk {
@@ -33,37 +33,6 @@ fn answered(desk: Desk, room: &[u8], count: usize) -> Acted {
         desk,
         next: Next::Stay,
     }
-}
-
-// ---- the boards kept for undo stand in a ring of 64 places; the next to be kept goes to the top
-fn place_after(top: usize) -> usize
-    ensures { λ r. ⌜ r < 64 ⌝ }
-{
-    if top < 63 {
-        return top + 1;
-    }
-    0
-}
-
-fn place_before(top: usize) -> usize
-    ensures { λ r. ⌜ r < 64 ⌝ }
-{
-    if top == 0 {
-        return 63;
-    }
-    if top < 64 {
-        return top - 1;
-    }
-    0
-}
-
-fn one_more(kept: usize) -> usize
-    ensures { λ r. ⌜ r ≤ 64 ⌝ }
-{
-    if kept < 64 {
-        return kept + 1;
-    }
-    64
 }
 
 // ---- what is said at a terminal alone
@@ -85,25 +54,17 @@ fn end_line(typing: bool) {
     }
 }
 
-// ---- undo
-fn undone(command: Typed) {
-    put::text(b"undone: ");
-    say::command(command);
-    put::text(b"\n");
-}
-
-fn not_undone() {
-    put::text(b"nothing is left to undo: the last 64 changes are kept\n");
-}
-
 fn main() {
     let mut piece = io::buffer();
     let mut room = [0u8; 1000];
     let mut feed = Feed { at: 0, end: 0 };
     let mut desk = closed();
     let mut past = [desk; 64];
-    let mut top: usize = 0;
-    let mut kept: usize = 0;
+    let mut kept = Kept {
+        top: 0,
+        count: 0,
+        dropped: false,
+    };
     let mut turns: usize = 18446744073709551615;
     let typing = libc::isatty(0) == 1;
     greet(typing);
@@ -122,21 +83,21 @@ fn main() {
                 continue;
             }
             Next::Keep => {
+                let top = kept.top;
                 past[top] = desk;
                 desk = acted.desk;
-                top = place_after(top);
-                kept = one_more(kept);
+                kept = undo::one_more(kept);
                 continue;
             }
             Next::Back => {
-                if kept == 0 {
-                    not_undone();
+                if kept.count == 0 {
+                    undo::not_undone(kept.dropped);
                     continue;
                 }
                 let command = desk.command;
-                undone(command);
-                kept -= 1;
-                top = place_before(top);
+                undo::undone(command);
+                kept = undo::one_less(kept);
+                let top = kept.top;
                 desk = past[top];
                 continue;
             }

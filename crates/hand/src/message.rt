@@ -41,7 +41,7 @@ fn kind(k: Kind, l: Entries) {
 // One entry; each but the first names the earlier one that led to it.
 fn entry(l: Entries, i: usize) {
     if i < 16 {
-        comma(i, 4);
+        comma(i, 3);
         crate::put::process(l.who[i]);
         let lead = wide(l.leads[i]);
         if lead < i {
@@ -52,8 +52,20 @@ fn entry(l: Entries, i: usize) {
     }
 }
 
-// The entries of a list with their leads, and the one asked next, on lines of their own. A message that is no list has none.
-fn entries(l: Entries) {
+// What the list is to do where it arrives: ask a process at its home, or look for it in an object's line.
+fn errand(k: Kind, l: Entries) {
+    match k {
+        Kind::ListToObject(o) => pair(b"looks for ", asked(l), b" in the line of ", o),
+        _ => {
+            text(b"asks ");
+            crate::put::process(asked(l));
+            text(b" next");
+        }
+    }
+}
+
+// The entries of a list with their leads, and its errand, on lines of their own. A message that is no list has none.
+fn entries(k: Kind, l: Entries) {
     let n = wide(l.count);
     if n == 0 {
         return;
@@ -68,10 +80,8 @@ fn entries(l: Entries) {
         i += 1;
     }
     text(b";");
-    crate::put::gap(n, 4);
-    text(b"asks ");
-    crate::put::process(asked(l));
-    text(b" next");
+    crate::put::gap(n, 3);
+    errand(k, l);
 }
 
 fn message(f: Flight, l: Entries, from: u8, to: u8) {
@@ -81,7 +91,7 @@ fn message(f: Flight, l: Entries, from: u8, to: u8) {
     crate::put::node(from);
     text(b" to ");
     crate::put::node(to);
-    entries(l);
+    entries(k, l);
     text(b"\n");
 }
 

@@ -4,6 +4,8 @@ use crate::put::wide16;
 use rules::Command;
 use typed::Typed;
 use typed::Verb;
+use typed::homes::cut;
+use typed::homes::homes;
 
 // What is asked for. Nothing is a line that was answered already.
 pub enum What {
@@ -15,6 +17,7 @@ pub enum What {
     Waits,
     Rings,
     Undo,
+    Help,
     Quit,
 }
 
@@ -40,28 +43,7 @@ fn odd(t: Typed, most: usize, form: &[u8]) -> Plan {
     plain(What::Nothing)
 }
 
-// A number as the board takes it: one above 255 is outside every limit, as 255 is.
-fn cut(n: u16) -> u8 {
-    if n < 256 {
-        return n as u8;
-    }
-    255
-}
-
 // ---- opening
-// The homes from a place of the row on.
-fn homes(numbers: [u16; 35], from: usize) -> [u8; 16] {
-    let mut r = [0u8; 16];
-    let mut i: usize = 0;
-    while i < 16 {
-        if from < 19 {
-            r[i] = cut(numbers[from + i]);
-        }
-        i += 1;
-    }
-    r
-}
-
 // Number k lives on node k modulo the node count.
 fn in_turn(nodes: u8) -> [u8; 16] {
     let mut r = [0u8; 16];
@@ -75,34 +57,56 @@ fn in_turn(nodes: u8) -> [u8; 16] {
     r
 }
 
-fn open(t: Typed) -> Plan {
-    let row = t.numbers;
-    let what = What::Open(cut(row[0]), cut(row[1]), cut(row[2]));
-    let processes = wide(cut(row[1]));
-    let objects = wide(cut(row[2]));
-    if t.odd == 0 {
-        if t.count == 3 {
-            let h = in_turn(cut(row[0]));
-            return Plan {
-                what,
-                process_home: h,
-                object_home: h,
-            };
-        }
-        if t.count == 3 + processes + objects {
-            return Plan {
-                what,
-                process_home: homes(row, 3),
-                object_home: homes(row, 3 + processes),
-            };
-        }
+// A count is outside its limit, as the board says: node 0, the home of all here, is a node of every board.
+fn count_outside(row: [u16; 35]) -> bool {
+    let s = bench::open(cut(row[0]), cut(row[1]), cut(row[2]), [0; 16], [0; 16]);
+    let a = s.answer;
+    bench::number(a) != 0
+}
+
+fn opening(row: [u16; 35], process_home: [u8; 16], object_home: [u8; 16]) -> Plan {
+    Plan {
+        what: What::Open(cut(row[0]), cut(row[1]), cut(row[2])),
+        process_home,
+        object_home,
     }
-    odd(
-        t,
-        35,
+}
+
+fn expect_opening() -> Plan {
+    crate::say::expected(
         b"open NODES PROCESSES OBJECTS, as in open 3 3 2, and after them
   no home, or the home node of each process and then of each object",
-    )
+    );
+    plain(What::Nothing)
+}
+
+// Three counts or more, which are numbers. Where one is outside its limit the board refuses it, whatever homes follow.
+fn counted(row: [u16; 35], count: usize) -> Plan {
+    let processes = cut(row[1]);
+    let turn = in_turn(cut(row[0]));
+    if count == 3 {
+        return opening(row, turn, turn);
+    }
+    if count_outside(row) {
+        return opening(row, turn, turn);
+    }
+    let wanted = 3 + wide(processes) + wide(cut(row[2]));
+    if count == wanted {
+        return opening(row, homes(row, 0), homes(row, processes));
+    }
+    crate::say::miscounted_homes(count, wanted);
+    expect_opening()
+}
+
+fn open(t: Typed) -> Plan {
+    let row = t.numbers;
+    if t.odd == 0 {
+        if 2 < t.count {
+            return counted(row, t.count);
+        }
+    }
+    crate::say::fault(t, 35);
+    expect_opening()
 }
 
 // ---- commands
@@ -117,7 +121,7 @@ fn request(t: Typed) -> Plan {
         t,
         3,
         b"request PROCESS OBJECT MODE, as in request 0 1 exclusive
-  (type 0 for p0 and 1 for o1; a mode is shared or s, exclusive or x)",
+  (type 0 for p0 and 1 for o1; a mode is shared or s or 0, exclusive or x or 1)",
     )
 }
 
@@ -182,11 +186,6 @@ fn unknown() -> Plan {
     plain(What::Nothing)
 }
 
-fn help() -> Plan {
-    crate::say::help();
-    plain(What::Nothing)
-}
-
 pub fn of(t: Typed) -> Plan {
     let verb = t.verb;
     match verb {
@@ -200,7 +199,7 @@ pub fn of(t: Typed) -> Plan {
         Verb::Waits => alone(t, What::Waits),
         Verb::Rings => alone(t, What::Rings),
         Verb::Undo => alone(t, What::Undo),
-        Verb::Help => help(),
+        Verb::Help => alone(t, What::Help),
         Verb::Quit => alone(t, What::Quit),
         Verb::Unknown => unknown(),
     }

@@ -153,6 +153,15 @@ pub fn fault(t: Typed, most: usize) {
     misread(verb, t.odd);
 }
 
+// An opening whose homes are too few or too many for its counts.
+pub fn miscounted_homes(count: usize, wanted: usize) {
+    text(b"not understood: ");
+    crate::put::number(count);
+    text(b" numbers after open; for these counts 3, or ");
+    crate::put::number(wanted);
+    text(b" with homes\n");
+}
+
 pub fn expected(form: &[u8]) {
     text(b"  expected ");
     text(form);
@@ -182,8 +191,8 @@ pub fn help() {
 open N P O         o   a board of N nodes (1 to 8), P processes (1 to 16) and
                        O objects (1 to 16); pK and oK live on node K modulo N
 open N P O HOMES   o   the same; then the home node of each process and object
-request P O MODE   r   process P asks for object O; MODE is shared or s,
-                       exclusive or x
+request P O MODE   r   process P asks for object O; MODE is shared or s or 0,
+                       exclusive or x or 1
 release P O        re  process P gives object O back
 deliver M          d   message M arrives
 drain              dr  the lowest message arrives, again and again, until none

@@ -193,13 +193,14 @@ pub fn ring(before: &[u8], r: Ring) {
     text(b"\n");
 }
 
+// How many places for a ring are filled, and the ring in each.
 pub fn rings(b: Board) {
-    if shape::tally(b) == 0 {
-        text(b"  no ring recorded\n");
-    }
+    text(b"  rings recorded: ");
+    crate::put::number(shape::tally(b));
+    text(b"\n");
     let mut i: usize = 0;
     while i < 16 {
-        ring(b"  ring ", b.rings[i]);
+        ring(b"    ring ", b.rings[i]);
         i += 1;
     }
 }

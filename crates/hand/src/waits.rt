@@ -111,13 +111,24 @@ fn standing(b: Board) -> bool {
     false
 }
 
+// The lines of the objects that live on a node.
+fn at_node(b: Board, node: u8) {
+    let mut i: usize = 0;
+    while i < 16 {
+        if b.object_home[i] == node {
+            in_line(i, node, b.objects[i]);
+        }
+        i += 1;
+    }
+}
+
 pub fn all(b: Board) {
     if !standing(b) {
         text(b"  nobody waits: nobody stands in a line\n");
     }
-    let mut i: usize = 0;
-    while i < 16 {
-        in_line(i, b.object_home[i], b.objects[i]);
-        i += 1;
+    let mut node: u8 = 0;
+    while node < 8 {
+        at_node(b, node);
+        node += 1;
     }
 }

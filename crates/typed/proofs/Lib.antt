@@ -3,4 +3,5 @@ pub mod Runs
 pub mod Naming
 pub mod Decimals
 pub mod Lines
+pub mod Filling
 pub mod Examples

@@ -3,4 +3,5 @@ pub mod Words
 pub mod Names
 pub mod Numbers
 pub mod Reading
+pub mod Homes
 pub mod Spans

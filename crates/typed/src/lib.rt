@@ -1,4 +1,5 @@
 // What a line typed at a terminal says. `read` is total: every line of bytes says something.
+pub mod homes;
 mod names;
 mod number;
 mod words;

@@ -1,17 +1,16 @@
 -- `hand::main` is safe and ends. The loop's invariant: the top of the kept boards is a place of theirs, and the arrays keep their lengths. The measure is the turns left. Assumes nothing.
-use mathlib.Core.Path.{_≡_}
-use Prim.Native.Nat.{_≤_, _<_}
-use native.Mathlib.Omega.{arith}
-use lib.ListN.{length}
+use mathlib.Core.Path.{_≡_, _∙_}
+use Prim.Native.Nat.{_<_}
+use lib.ListN.{length, length-set}
 use borrow.Author.Needs.{needs}
 use Rattle.hand.proofs.main.Statement.{statement}
 use Rattle.hand.proofs.main.Tie as tie
 
 abbrev Inv-loop : tie.InvT-loop
-Inv-loop piece₀ room₀ feed₀ desk₀ past₀ top₀ kept₀ turns₀ typing piece room feed desk past top kept turns = (top < 64) × (kept ≤ 64) × (length piece ≡ 4096) × (length room ≡ 1000) × (length past ≡ 64)
+Inv-loop piece₀ room₀ feed₀ desk₀ past₀ kept₀ turns₀ typing piece room feed desk past kept turns = (kept .top < 64) × (length piece ≡ 4096) × (length room ≡ 1000) × (length past ≡ 64)
 
 abbrev μ-loop : tie.MeasureT-loop
-μ-loop piece₀ room₀ feed₀ desk₀ past₀ top₀ kept₀ turns₀ typing piece room feed desk past top kept turns = turns
+μ-loop piece₀ room₀ feed₀ desk₀ past₀ kept₀ turns₀ typing piece room feed desk past kept turns = turns
 
 buffer-requires : tie.Need-buffer-requires Inv-loop μ-loop
 buffer-requires c κs = search needs
@@ -70,9 +69,6 @@ mul-past c = search needs
 array-set-from-past : tie.Need-array-set-from-past Inv-loop μ-loop
 array-set-from-past c = search needs
 
-place-after-requires : tie.Need-place-after-requires Inv-loop μ-loop
-place-after-requires c κs = search needs
-
 one-more-requires : tie.Need-one-more-requires Inv-loop μ-loop
 one-more-requires c κs = search needs
 
@@ -80,7 +76,7 @@ loop-less-2 : tie.Need-loop-less-2 Inv-loop μ-loop
 loop-less-2 c = search needs
 
 loop-again-2 : tie.Need-loop-again-2 Inv-loop μ-loop
-loop-again-2 c = search needs
+loop-again-2 c = let b = c .before .before .before .before .before .before .before .before .before .before .before .before .before .before .before .before in (search needs, search needs, search needs, length-set (b .loop .past) (b .loop .kept .top) (b .loop .desk) ∙ b .loop .inv .3)
 
 enum-told-3 : tie.Need-enum-told-3 Inv-loop μ-loop
 enum-told-3 c = search needs
@@ -92,16 +88,13 @@ loop-less-3 : tie.Need-loop-less-3 Inv-loop μ-loop
 loop-less-3 c = search needs
 
 loop-again-3 : tie.Need-loop-again-3 Inv-loop μ-loop
-loop-again-3 c = search needs
+loop-again-3 c = let b = c .before .before .before .before .before .before .before .before .before .before .before .before .before .before .before .before .before in (b .loop .inv .0, search needs, search needs, b .loop .inv .3)
 
 undone-requires : tie.Need-undone-requires Inv-loop μ-loop
 undone-requires c κs = search needs
 
-sub-kept : tie.Need-sub-kept Inv-loop μ-loop
-sub-kept c = search needs
-
-place-before-requires : tie.Need-place-before-requires Inv-loop μ-loop
-place-before-requires c κs = search needs
+one-less-requires : tie.Need-one-less-requires Inv-loop μ-loop
+one-less-requires c κs = search needs
 
 mul-desk : tie.Need-mul-desk Inv-loop μ-loop
 mul-desk c = search needs
@@ -113,7 +106,7 @@ loop-less-4 : tie.Need-loop-less-4 Inv-loop μ-loop
 loop-less-4 c = search needs
 
 loop-again-4 : tie.Need-loop-again-4 Inv-loop μ-loop
-loop-again-4 c = let inv = c .before .before .before .before .before .before .before .before .before .before .before .before .before .before .before .before .before .before .before .loop .inv in (search needs, omega (arith, inv .1), search needs, search needs, inv .4)
+loop-again-4 c = let b = c .before .before .before .before .before .before .before .before .before .before .before .before .before .before .before .before .before .before .before .before in let n = c .before .before .before .before .before .before .before .before .before .before .before .before .before .before .before in (search needs, search (needs, n .next-line), search (needs, n .next-line), b .loop .inv .3)
 
 enum-told-4 : tie.Need-enum-told-4 Inv-loop μ-loop
 enum-told-4 c = search needs
@@ -152,7 +145,6 @@ main-spec =
     enum-told-2
     mul-past
     array-set-from-past
-    place-after-requires
     one-more-requires
     loop-less-2
     loop-again-2
@@ -161,8 +153,7 @@ main-spec =
     loop-less-3
     loop-again-3
     undone-requires
-    sub-kept
-    place-before-requires
+    one-less-requires
     mul-desk
     array-copy-out-desk
     loop-less-4

@@ -1,14 +1,14 @@
--- `hand::message::entries` is safe and ends. The loop counts the 16 places of a list. Assumes nothing.
+-- `hand::message::entries` is safe and ends. The loop counts the 16 entries. Assumes nothing.
 use Prim.Native.Nat.{_≤_, _-_}
 use borrow.Author.Needs.{needs}
 use Rattle.hand.proofs.message.entries.Statement.{statement}
 use Rattle.hand.proofs.message.entries.Tie as tie
 
 abbrev Inv-loop : tie.InvT-loop
-Inv-loop l n i₀ t5 t6 t7 i = i ≤ 16
+Inv-loop k l n i₀ t6 i = i ≤ 16
 
 abbrev μ-loop : tie.MeasureT-loop
-μ-loop l n i₀ t5 t6 t7 i = 16 - i
+μ-loop k l n i₀ t6 i = 16 - i
 
 wide-requires : tie.Need-wide-requires Inv-loop μ-loop
 wide-requires c κs = search needs
@@ -49,23 +49,8 @@ text-requires-2 c κs = search needs
 gap-requires : tie.Need-gap-requires Inv-loop μ-loop
 gap-requires c κs = search needs
 
-slice-aggregate-text-3 : tie.Need-slice-aggregate-text-3 Inv-loop μ-loop
-slice-aggregate-text-3 c = search needs
-
-text-requires-3 : tie.Need-text-requires-3 Inv-loop μ-loop
-text-requires-3 c κs = search needs
-
-asked-requires : tie.Need-asked-requires Inv-loop μ-loop
-asked-requires c κs = search needs
-
-process-requires : tie.Need-process-requires Inv-loop μ-loop
-process-requires c κs = search needs
-
-slice-aggregate-text-4 : tie.Need-slice-aggregate-text-4 Inv-loop μ-loop
-slice-aggregate-text-4 c = search needs
-
-text-requires-4 : tie.Need-text-requires-4 Inv-loop μ-loop
-text-requires-4 c κs = search needs
+errand-requires : tie.Need-errand-requires Inv-loop μ-loop
+errand-requires c κs = search needs
 
 returns-2 : tie.Need-returns-2 Inv-loop μ-loop
 returns-2 c = search needs
@@ -89,10 +74,5 @@ entries-spec =
     slice-aggregate-text-2
     text-requires-2
     gap-requires
-    slice-aggregate-text-3
-    text-requires-3
-    asked-requires
-    process-requires
-    slice-aggregate-text-4
-    text-requires-4
+    errand-requires
     returns-2)

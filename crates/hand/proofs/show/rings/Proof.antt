@@ -5,19 +5,28 @@ use Rattle.hand.proofs.show.rings.Statement.{statement}
 use Rattle.hand.proofs.show.rings.Tie as tie
 
 abbrev Inv-loop : tie.InvT-loop
-Inv-loop b i₀ t5 i = i ≤ 16
+Inv-loop b i₀ t6 i = i ≤ 16
 
 abbrev μ-loop : tie.MeasureT-loop
-μ-loop b i₀ t5 i = 16 - i
-
-tally-requires : tie.Need-tally-requires Inv-loop μ-loop
-tally-requires c κs = search needs
+μ-loop b i₀ t6 i = 16 - i
 
 slice-aggregate-text : tie.Need-slice-aggregate-text Inv-loop μ-loop
 slice-aggregate-text c = search needs
 
 text-requires : tie.Need-text-requires Inv-loop μ-loop
 text-requires c κs = search needs
+
+tally-requires : tie.Need-tally-requires Inv-loop μ-loop
+tally-requires c κs = search needs
+
+number-requires : tie.Need-number-requires Inv-loop μ-loop
+number-requires c κs = search needs
+
+slice-aggregate-text-2 : tie.Need-slice-aggregate-text-2 Inv-loop μ-loop
+slice-aggregate-text-2 c = search needs
+
+text-requires-2 : tie.Need-text-requires-2 Inv-loop μ-loop
+text-requires-2 c κs = search needs
 
 loop-holds : tie.Need-loop-holds Inv-loop μ-loop
 loop-holds c = search needs
@@ -52,9 +61,12 @@ rings-spec =
     (tie.spec
     Inv-loop
     μ-loop
-    tally-requires
     slice-aggregate-text
     text-requires
+    tally-requires
+    number-requires
+    slice-aggregate-text-2
+    text-requires-2
     loop-holds
     slice-aggregate-ring
     mul-ring

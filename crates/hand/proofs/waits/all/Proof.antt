@@ -1,14 +1,14 @@
--- `hand::waits::all` is safe and ends. The loop counts the 16 objects. Assumes nothing.
+-- `hand::waits::all` is safe and ends. The loop counts the 8 nodes. Assumes nothing.
 use Prim.Native.Nat.{_≤_, _-_}
 use borrow.Author.Needs.{needs}
 use Rattle.hand.proofs.waits.all.Statement.{statement}
 use Rattle.hand.proofs.waits.all.Tie as tie
 
 abbrev Inv-loop : tie.InvT-loop
-Inv-loop b i₀ i = i ≤ 16
+Inv-loop b node₀ node = node ≤ 8
 
 abbrev μ-loop : tie.MeasureT-loop
-μ-loop b i₀ i = 16 - i
+μ-loop b node₀ node = 8 - node
 
 standing-requires : tie.Need-standing-requires Inv-loop μ-loop
 standing-requires c κs = search needs
@@ -22,20 +22,11 @@ text-requires c κs = search needs
 loop-holds : tie.Need-loop-holds Inv-loop μ-loop
 loop-holds c = search needs
 
-element-copy-out-in-line : tie.Need-element-copy-out-in-line Inv-loop μ-loop
-element-copy-out-in-line c = search needs
+at-node-requires : tie.Need-at-node-requires Inv-loop μ-loop
+at-node-requires c κs = search needs
 
-mul-in-line : tie.Need-mul-in-line Inv-loop μ-loop
-mul-in-line c = search needs
-
-element-copy-out-in-line-2 : tie.Need-element-copy-out-in-line-2 Inv-loop μ-loop
-element-copy-out-in-line-2 c = search needs
-
-in-line-requires : tie.Need-in-line-requires Inv-loop μ-loop
-in-line-requires c κs = search needs
-
-add-i : tie.Need-add-i Inv-loop μ-loop
-add-i c = search needs
+add-node : tie.Need-add-node Inv-loop μ-loop
+add-node c = search needs
 
 loop-less : tie.Need-loop-less Inv-loop μ-loop
 loop-less c = search needs
@@ -56,11 +47,8 @@ all-spec =
     slice-aggregate-text
     text-requires
     loop-holds
-    element-copy-out-in-line
-    mul-in-line
-    element-copy-out-in-line-2
-    in-line-requires
-    add-i
+    at-node-requires
+    add-node
     loop-less
     loop-again
     returns)

@@ -1,0 +1,54 @@
+-- `hand::waits::at_node` is safe and ends. The loop counts the 16 objects. Assumes nothing.
+use Prim.Native.Nat.{_≤_, _-_}
+use borrow.Author.Needs.{needs}
+use Rattle.hand.proofs.waits.at_node.Statement.{statement}
+use Rattle.hand.proofs.waits.at_node.Tie as tie
+
+abbrev Inv-loop : tie.InvT-loop
+Inv-loop node b i₀ i = i ≤ 16
+
+abbrev μ-loop : tie.MeasureT-loop
+μ-loop node b i₀ i = 16 - i
+
+loop-holds : tie.Need-loop-holds Inv-loop μ-loop
+loop-holds c = search needs
+
+element-copy-out-if1 : tie.Need-element-copy-out-if1 Inv-loop μ-loop
+element-copy-out-if1 c = search needs
+
+mul-in-line : tie.Need-mul-in-line Inv-loop μ-loop
+mul-in-line c = search needs
+
+element-copy-out-in-line : tie.Need-element-copy-out-in-line Inv-loop μ-loop
+element-copy-out-in-line c = search needs
+
+in-line-requires : tie.Need-in-line-requires Inv-loop μ-loop
+in-line-requires c κs = search needs
+
+add-i : tie.Need-add-i Inv-loop μ-loop
+add-i c = search needs
+
+loop-less : tie.Need-loop-less Inv-loop μ-loop
+loop-less c = search needs
+
+loop-again : tie.Need-loop-again Inv-loop μ-loop
+loop-again c = search needs
+
+returns : tie.Need-returns Inv-loop μ-loop
+returns c = search needs
+
+pub at-node-spec : {M : Type 1} → statement M
+at-node-spec =
+    tie.close
+    (tie.spec
+    Inv-loop
+    μ-loop
+    loop-holds
+    element-copy-out-if1
+    mul-in-line
+    element-copy-out-in-line
+    in-line-requires
+    add-i
+    loop-less
+    loop-again
+    returns)
