@@ -18,8 +18,8 @@ use Rattle.rules.specs.Shape.{inShape, step, drain}
 use Rattle.rules.specs.Sheet.{refusedRun, wholeRun, run, runOpening}
 use Rattle.laws.proofs.Opening.{opening-in-shape}
 use Rattle.bench.specs.Packed.{answerOf}
-use Rattle.bench.specs.Ready.{Ready}
-use Rattle.bench.proofs.Ready.{shape-ready}
+use Rattle.engine.specs.Ready.{Ready}
+use Rattle.engine.proofs.Ready.{shape-ready}
 use Rattle.bench.proofs.Packing.{answer-back}
 
 -- ---- one command

@@ -1,11 +1,4 @@
--- Laws of the engine.
-pub mod Ready
-pub mod Granting
-pub mod Sends
-pub mod Arrivals
-pub mod Releases
-pub mod Turns
-pub mod Working
+-- Laws of the public calls.
 pub mod Packing
 pub mod Homes
 pub mod Calls

@@ -4,7 +4,7 @@ ghost use mathlib.Core.List.{[], _∷_};
 ghost use Rattle.rules.specs.declared.Command.the-variants as Do;
 ghost use Rattle.rules.specs.Commands.{turn};
 ghost use Rattle.rules.specs.Sheet.{commandAt};
-ghost use Rattle.bench.specs.Ready.{Ready};
+ghost use Rattle.engine.specs.Ready.{Ready};
 use rules::Answer;
 use rules::Board;
 use rules::Stepped;
@@ -16,7 +16,7 @@ pub fn once(b: Board, hi: u8, lo: u8) -> Stepped
 {
     let s = [hi, lo];
     let mut room = [0u8; 1];
-    let r = crate::engine::turns(b, &s, false, 1, &mut room);
+    let r = engine::turns(b, &s, false, 1, &mut room);
     let next = r.board;
     Stepped {
         answer: crate::answer::answer_of(room[0]),

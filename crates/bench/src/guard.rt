@@ -2,7 +2,7 @@
 ghost use mathlib.Core.Path.{_≡_};
 ghost use mathlib.Core.Bool.{true};
 ghost use Rattle.rules.specs.Shape.{inShape};
-ghost use Rattle.bench.specs.Ready.{Ready};
+ghost use Rattle.engine.specs.Ready.{Ready};
 use rules::Board;
 
 pub fn is_ready(b: Board) -> bool

@@ -16,13 +16,8 @@ use rules::Stepped;
 
 mod answer;
 mod commands;
-mod engine;
-mod grants;
 mod guard;
-mod message;
-mod next;
 mod opening;
-mod packed;
 
 // Counts of nodes, processes and objects, and the homes of the processes and of the objects.
 pub fn open(
@@ -35,7 +30,7 @@ pub fn open(
     ensures { λ r. ⌜ r ≡ opening nodes processes objects «process_home» «object_home» ⌝ }
 {
     let answer = opening::opening_answer(nodes, processes, objects, process_home, object_home);
-    if answer::number(answer) != 0 {
+    if engine::answer::number(answer) != 0 {
         return Stepped {
             answer: answer,
             board: opening::empty_board(0, 0, 0, [0; 16], [0; 16]),
@@ -130,7 +125,7 @@ pub fn run_opening(
 {
     let opened = open(nodes, processes, objects, process_home, object_home);
     let answer = opened.answer;
-    if answer::number(answer) != 0 {
+    if engine::answer::number(answer) != 0 {
         return refused(answer, opened.board);
     }
     if s.len() % 2 == 1 {
@@ -169,5 +164,5 @@ pub fn drain(b: Board, budget: usize) -> Drained
 pub fn number(a: Answer) -> u8
     ensures { λ r. ⌜ r ≡ Answers.number a ⌝ }
 {
-    answer::number(a)
+    engine::answer::number(a)
 }

@@ -105,7 +105,7 @@ pub fn empty_board(
         line_exclusive: 0,
         line_count: 0,
     };
-    let none = crate::message::no_entries();
+    let none = engine::message::no_entries();
     let ring = Ring {
         processes: [0; 16],
         count: 0,

@@ -4,7 +4,7 @@ use native.Mathlib.Omega.{arith}
 use borrow.Author.Needs.{needs}
 use borrow.Author.Tests.{not-true, not-false}
 use Rattle.bench.proofs.Calls.{drain-refused, drain-taken}
-use Rattle.bench.proofs.Working.{for-drain, drained-is}
+use Rattle.engine.proofs.Working.{for-drain, drained-is}
 use Rattle.bench.proofs.drain.Statement.{statement}
 use Rattle.bench.proofs.drain.Tie as tie
 

@@ -4,7 +4,7 @@ use borrow.Author.Needs.{needs}
 use borrow.Author.Tests.{not-true, not-false}
 use Rattle.rules.specs.Sheet.{Run}
 use Rattle.bench.proofs.Calls.{run-unshaped, run-odd, run-short, run-whole}
-use Rattle.bench.proofs.Working.{for-sheet}
+use Rattle.engine.proofs.Working.{for-sheet}
 use Rattle.bench.proofs.run.Statement.{statement}
 use Rattle.bench.proofs.run.Tie as tie
 

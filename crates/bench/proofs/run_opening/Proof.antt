@@ -6,7 +6,7 @@ use borrow.Author.Needs.{needs}
 use Rattle.rules.specs.declared.Ran.{Ran}
 use Rattle.rules.specs.Sheet.{Run}
 use Rattle.bench.proofs.Calls.{opening-ends, opening-shaped, opening-ready, opening-runs, run-odd, run-short, run-whole}
-use Rattle.bench.proofs.Working.{for-sheet}
+use Rattle.engine.proofs.Working.{for-sheet}
 use Rattle.bench.proofs.run_opening.Statement.{statement}
 use Rattle.bench.proofs.run_opening.Tie as tie
 

@@ -3,7 +3,7 @@ use mathlib.Core.Path.{refl, ap}
 use native.Mathlib.Omega.{arith}
 use borrow.Author.Needs.{needs}
 use Rattle.rules.specs.declared.Ran.{Ran}
-use Rattle.bench.proofs.Working.{for-sheet}
+use Rattle.engine.proofs.Working.{for-sheet}
 use Rattle.bench.proofs.Packing.{once-turns}
 use Rattle.bench.proofs.commands.once.Statement.{statement}
 use Rattle.bench.proofs.commands.once.Tie as tie

@@ -15,7 +15,7 @@ use Rattle.rules.proofs.Object as ObjectField
 use Rattle.rules.proofs.Entries as EntriesField
 use Rattle.rules.proofs.Ring as RingField
 use Rattle.laws.specs.Shape.{Sized}
-use Rattle.bench.proofs.Ready.{shape-ready}
+use Rattle.engine.proofs.Ready.{shape-ready}
 use Rattle.bench.proofs.guard.is_ready.Statement.{statement}
 use Rattle.bench.proofs.guard.is_ready.Tie as tie
 

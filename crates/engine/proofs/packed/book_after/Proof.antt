@@ -1,0 +1,27 @@
+-- `engine::packed::book_after` meets its contract: by the kind. Assumes nothing.
+use borrow.Author.Tests.{eq-eqb, ne-eqb}
+use borrow.Author.Needs.{needs}
+use Rattle.engine.specs.Packed.{bookAfter}
+use Rattle.engine.proofs.packed.book_after.Statement.{statement}
+use Rattle.engine.proofs.packed.book_after.Tie as tie
+
+dropping-requires : tie.Need-dropping-requires
+dropping-requires c κs = search needs
+
+returns : tie.Need-returns
+unfolding bookAfter
+returns c = rw (eq-eqb _ 2 (c .before .if1 .taken)) (c .dropping .ensures)
+
+mode-of-requires : tie.Need-mode-of-requires
+mode-of-requires c κs = search needs
+
+asking-requires : tie.Need-asking-requires
+asking-requires c κs = search needs
+
+returns-2 : tie.Need-returns-2
+unfolding bookAfter
+returns-2 c = rw (ne-eqb _ 2 (c .before .before .if1 .left)) (rw (← c .before .mode-of .ensures) (c .asking .ensures))
+
+pub book-after-spec : {M : Type 1} → statement M
+book-after-spec =
+    tie.close (tie.spec dropping-requires returns mode-of-requires asking-requires returns-2)

@@ -1,0 +1,20 @@
+-- `engine::packed::kind_sent` meets its contract: by the kind. Assumes nothing.
+use borrow.Author.Tests.{eq-eqb, ne-eqb}
+use borrow.Author.Needs.{needs}
+use Rattle.engine.specs.Packed.{kindSent}
+use Rattle.engine.proofs.packed.kind_sent.Statement.{statement}
+use Rattle.engine.proofs.packed.kind_sent.Tie as tie
+
+returns : tie.Need-returns
+unfolding kindSent
+returns c = rw (eq-eqb _ 2 (c .if1 .taken))
+
+mode-of-requires : tie.Need-mode-of-requires
+mode-of-requires c κs = search needs
+
+returns-2 : tie.Need-returns-2
+unfolding kindSent
+returns-2 c = rw (ne-eqb _ 2 (c .before .if1 .left)) (rw (← c .mode-of .ensures))
+
+pub kind-sent-spec : {M : Type 1} → statement M
+kind-sent-spec = tie.close (tie.spec returns mode-of-requires returns-2)

@@ -1,0 +1,206 @@
+// The engine of the board: one loop that holds the board as one local and does every write. A handler sees small records alone. This is
+// the inner room of the bench, which asks for the shape first.
+ghost use Rattle.engine.specs.Ready.{Ready};
+ghost use Rattle.engine.specs.Work.{Reach, Worked};
+use books::bits::wide;
+use rules::Answer;
+use rules::Board;
+use rules::Flight;
+use rules::Kind;
+use rules::Ran;
+
+pub mod answer;
+mod grants;
+pub mod message;
+mod next;
+mod packed;
+
+// Each command of the slice, two bytes a command, on the board; each answer's number into the room. Or, with `lowest`, the lowest number
+// in flight is delivered again and again, until none is left. At most so many turns.
+pub fn turns(start: Board, s: &[u8], lowest: bool, most: usize, room: &mut [u8]) -> Ran
+    requires { ⌜ Ready start × Reach lowest (now s) most (now room) ⌝ }
+    ensures { λ r. ⌜ Worked lowest start (now (s .entry)) most (now (room .entry)) r (now (room .exit)) ⌝ }
+{
+    let mut b = start;
+    let free = Flight { kind: Kind::Free };
+    let none = crate::message::no_entries();
+    let mut weight = shape::load(b);
+    let mut i: usize = 0;
+    while i < most {
+        if crate::next::is_over(lowest, b.occupied) {
+            break;
+        }
+        let hi = crate::next::first_byte(s, i, lowest, b.occupied);
+        let lo = crate::next::second_byte(s, i, lowest);
+        let at_room = crate::next::answer_place(i, lowest);
+        let kind = hi / 64;
+        match kind {
+            0..=2 => {
+                let p = (hi / 4) % 16;
+                let o = crate::packed::object_number(hi, lo);
+                let pi = wide(p);
+                let book = b.processes[pi];
+                let answer = crate::packed::home_answer(
+                    kind,
+                    p,
+                    o,
+                    b.process_count,
+                    b.object_count,
+                    book,
+                );
+                if answer != 0 {
+                    room[at_room] = answer;
+                    i += 1;
+                    continue;
+                }
+                if crate::packed::top_load(kind) < weight {
+                    room[at_room] = 10;
+                    i += 1;
+                    continue;
+                }
+                room[at_room] = 0;
+                i += 1;
+                let process = crate::packed::book_after(kind, book, o);
+                b.processes[pi] = process;
+                let to = books::bits::lowest_free(b.occupied);
+                let out = crate::packed::kind_sent(kind, p, o);
+                weight += crate::message::kind_load(out);
+                let flight = Flight { kind: out };
+                b.flights[to] = flight;
+                b.lists[to] = none;
+                b.occupied = books::bits::with(b.occupied, to as u8);
+                continue;
+            }
+            _ => {
+                let num = hi % 64;
+                if !books::bits::has(b.occupied, num) {
+                    room[at_room] = 11;
+                    i += 1;
+                    continue;
+                }
+                room[at_room] = 0;
+                i += 1;
+                let at = wide(num);
+                let arrived = b.flights[at];
+                let list = b.lists[at];
+                let sort = arrived.kind;
+                weight -= crate::message::kind_load(sort);
+                b.flights[at] = free;
+                b.lists[at] = none;
+                b.occupied = books::bits::without(b.occupied, num);
+                let to = books::bits::lowest_free(b.occupied);
+                match sort {
+                    Kind::Free => {
+                        continue;
+                    }
+                    Kind::Request(q, x, mode) => {
+                        let xi = wide(x);
+                        let old = b.objects[xi];
+                        if books::object::is_welcome(old, q, mode) {
+                            let held = books::object::hold(old, q, mode);
+                            b.objects[xi] = held;
+                            weight += 1;
+                            let flight = Flight {
+                                kind: Kind::Grant(q, x, mode),
+                            };
+                            b.flights[to] = flight;
+                            b.lists[to] = none;
+                            b.occupied = books::bits::with(b.occupied, to as u8);
+                            continue;
+                        }
+                        let joined = books::object::join(old, q, mode);
+                        b.objects[xi] = joined;
+                        weight = weight + wide(joined.line_count) - wide(old.line_count);
+                        let entries = books::list::started(old, q, mode, old.line_count);
+                        let out = books::message::asks_next(entries.next, entries.count);
+                        let more = crate::message::kind_load(out);
+                        if more == 0 {
+                            continue;
+                        }
+                        weight += more;
+                        let flight = Flight { kind: out };
+                        b.flights[to] = flight;
+                        b.lists[to] = entries;
+                        b.occupied = books::bits::with(b.occupied, to as u8);
+                        continue;
+                    }
+                    Kind::Grant(q, x, mode) => {
+                        let qi = wide(q);
+                        let process = books::home::granted(b.processes[qi], x, mode);
+                        b.processes[qi] = process;
+                        continue;
+                    }
+                    Kind::Release(q, x) => {
+                        let xi = wide(x);
+                        let struck = books::object::strike(b.objects[xi], q);
+                        if !crate::grants::front_goes(struck) {
+                            b.objects[xi] = struck;
+                            continue;
+                        }
+                        let book = books::object::front_granted(struck);
+                        b.objects[xi] = book;
+                        let flight = Flight {
+                            kind: crate::grants::front_grant(struck, x),
+                        };
+                        b.flights[to] = flight;
+                        b.lists[to] = none;
+                        b.occupied = books::bits::with(b.occupied, to as u8);
+                        if !crate::grants::front_goes(book) {
+                            continue;
+                        }
+                        b = crate::grants::grant_rest(b, x);
+                        weight = shape::load(b);
+                        continue;
+                    }
+                    Kind::ListToHome => {
+                        let qi = wide(crate::packed::asked_of(list));
+                        let process = b.processes[qi];
+                        let wait = process.wait;
+                        let onward = books::home::onward(list.next, list.count, wait);
+                        let out = onward.kind;
+                        let more = crate::message::kind_load(out);
+                        if more == 0 {
+                            continue;
+                        }
+                        weight += more;
+                        let mut entries = list;
+                        entries.next = onward.next;
+                        let flight = Flight { kind: out };
+                        b.flights[to] = flight;
+                        b.lists[to] = entries;
+                        b.occupied = books::bits::with(b.occupied, to as u8);
+                        continue;
+                    }
+                    Kind::ListToObject(x) => {
+                        let book = b.objects[wide(x)];
+                        let place = books::list::place_in(book, crate::packed::asked_of(list));
+                        if books::list::closes(list, book, place) {
+                            let si = wide(crate::packed::starter_of(list));
+                            let ring = books::list::along_leads(list, wide(list.next));
+                            let kept = books::list::keeping(b.rings[si], ring);
+                            b.rings[si] = kept;
+                            continue;
+                        }
+                        let entries = books::list::grown(list, book, place);
+                        let out = books::message::asks_next(entries.next, entries.count);
+                        let more = crate::message::kind_load(out);
+                        if more == 0 {
+                            continue;
+                        }
+                        weight += more;
+                        let flight = Flight { kind: out };
+                        b.flights[to] = flight;
+                        b.lists[to] = entries;
+                        b.occupied = books::bits::with(b.occupied, to as u8);
+                        continue;
+                    }
+                }
+            }
+        }
+    }
+    Ran {
+        answer: Answer::Done,
+        commands: i,
+        board: b,
+    }
+}
