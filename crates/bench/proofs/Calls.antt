@@ -64,23 +64,29 @@ module _ (b : Board) (s room : List ℕ) where
 -- ---- an opening and its commands
 module _ (n p o : ℕ) (hp ho : List ℕ) (r : Stepped) (e : r ≡ opening n p o hp ho) (k : ℕ) (g : k ≡ number (r .answer)) (s room : List ℕ) where
   pub opening-ends : k ≢ 0 → runOpening n p o hp ho s room ≡ refusedRun (r .answer) (r .board) room
-  unfolding runOpening opening
-  opening-ends h = rw (e, ne-eqb (number (opening n p o hp ho .answer)) 0 (λ z. h (g ∙ rw e z)))
+  unfolding runOpening opening firstOf
+  opening-ends h = let z = ne-eqb (number (opening n p o hp ho .answer)) 0 (λ z. h (g ∙ rw e z)) in rw (e, z, z)
 
   module _ (h : k ≡ 0) where
     opened : r .answer ≡ Done
     unfolding answerOf
     opened = sym (answer-back (r .answer)) ∙ ap answerOf (sym g ∙ h)
 
-    pub opening-shaped : inShape (r .board) ≡ true
-    opening-shaped = rw e (opening-in-shape .inShape n p o hp ho (rw (← e) opened))
-
     pub opening-ready : Ready (r .board)
-    opening-ready = shape-ready (r .board) (rw e (opening-in-shape .sized n p o hp ho)) opening-shaped
+    opening-ready = shape-ready (r .board) (rw e (opening-in-shape .sized n p o hp ho)) (rw e (opening-in-shape .inShape n p o hp ho (rw (← e) opened)))
 
-    pub opening-runs : runOpening n p o hp ho s room ≡ run (r .board) s room
-    unfolding runOpening
-    opening-runs = rw (← e, opened)
+    pub opening-odd : length s % 2 ≡ 1 → runOpening n p o hp ho s room ≡ refusedRun OddByte zeroBoard room
+    unfolding runOpening firstOf
+    opening-odd f = rw (← e, opened, f)
+
+    module _ (f : length s % 2 ≢ 1) where
+      pub opening-short : length room < length s / 2 → runOpening n p o hp ho s room ≡ refusedRun RoomTooShort zeroBoard room
+      unfolding runOpening firstOf
+      opening-short l = rw (← e, opened, ne-eqb (length s % 2) 1 f, lt-ltb (length room) (length s / 2) l)
+
+      pub opening-whole : length s / 2 ≤ length room → runOpening n p o hp ho s room ≡ wholeRun (r .board) s room (length s / 2)
+      unfolding runOpening firstOf
+      opening-whole l = rw (← e, opened, ne-eqb (length s % 2) 1 f, le-ltb (length room) (length s / 2) l)
 
 -- ---- the drain
 pub drain-refused : (b : Board) (n : ℕ) → inShape b ≡ false → _≡_ {A = Drained} (record { answer = OutOfShape; made = 0; board = b }) (drain b n)

@@ -1,5 +1,5 @@
 // The board: an opening, the commands one by one, many at once, and the drain. Each is equal to its rule, on every board and for all
-// numbers. The shape of the board is asked once for each call.
+// numbers. A call on a board asks for its shape once, at its start.
 ghost use mathlib.Core.Path.{_≡_};
 ghost use mathlib.Core.List.{[]};
 ghost use Rattle.rules.specs.declared.Command.the-variants as Do;
@@ -33,7 +33,7 @@ pub fn open(
     if engine::answer::number(answer) != 0 {
         return Stepped {
             answer: answer,
-            board: opening::empty_board(0, 0, 0, [0; 16], [0; 16]),
+            board: opening::zero_board(),
         };
     }
     let kept_processes = opening::homes_of(processes, process_home);
@@ -93,7 +93,8 @@ fn refused(a: Answer, b: Board) -> Ran
     }
 }
 
-// Packed commands, two bytes each; the number of each answer goes into the room, whose bytes beyond them stay.
+// Packed commands, two bytes each; the number of each answer goes into the room, whose bytes beyond them stay. It is one call, so the
+// shape is asked before the first command alone.
 pub fn run(b: Board, s: &[u8], room: &mut [u8]) -> Ran
     ensures { λ r. ⌜ (r ≡ Sheet.run b (now (s .entry)) (now (room .entry)) .ran) × (now (room .exit) ≡ Sheet.run b (now (s .entry)) (now (room .entry)) .room) ⌝ }
 {
@@ -110,7 +111,7 @@ pub fn run(b: Board, s: &[u8], room: &mut [u8]) -> Ran
     engine::turns(b, s, false, n, room)
 }
 
-// An opening, and packed commands on it. An opening is in shape, so the shape is not asked.
+// An opening, and packed commands on it. An opening is in shape, so the shape is not asked. Where it is refused, the board is all zeros.
 pub fn run_opening(
     nodes: u8,
     processes: u8,
@@ -129,11 +130,11 @@ pub fn run_opening(
         return refused(answer, opened.board);
     }
     if s.len() % 2 == 1 {
-        return refused(Answer::OddByte, opened.board);
+        return refused(Answer::OddByte, opening::zero_board());
     }
     let n = s.len() / 2;
     if room.len() < n {
-        return refused(Answer::RoomTooShort, opened.board);
+        return refused(Answer::RoomTooShort, opening::zero_board());
     }
     engine::turns(opened.board, s, false, n, room)
 }

@@ -5,7 +5,7 @@ ghost use lib.Dec.{ltb};
 ghost use lib.ListN.{getD};
 ghost use Rattle.rules.specs.Tables.{all};
 ghost use Rattle.rules.specs.Answers.{firstOf};
-ghost use Rattle.rules.specs.Commands.{countFits, homesOf, emptyBoard, openingTests};
+ghost use Rattle.rules.specs.Commands.{countFits, homesOf, emptyBoard, zeroBoard, openingTests};
 use books::bits::wide;
 use rules::Answer;
 use rules::Board;
@@ -124,4 +124,11 @@ pub fn empty_board(
         lists: [none; 64],
         rings: [ring; 16],
     }
+}
+
+// The board of zeros, which a refused opening hands back.
+pub fn zero_board() -> Board
+    ensures { λ r. ⌜ r ≡ zeroBoard ⌝ }
+{
+    empty_board(0, 0, 0, [0; 16], [0; 16])
 }

@@ -11,7 +11,6 @@ use lib.ListN.{length}
 use Rattle.rules.specs.declared.Mode.{Mode}
 use Rattle.rules.specs.declared.Wait.{Wait}
 use Rattle.rules.specs.declared.Wait.the-variants.{NotWaiting, Waiting}
-use Rattle.rules.specs.declared.Kind.{Kind}
 use Rattle.rules.specs.declared.Kind.the-variants.{Free, Request, Grant, Release, ListToHome, ListToObject}
 use Rattle.rules.specs.declared.Entries.{Entries}
 use Rattle.rules.specs.declared.Message.{Message}
@@ -20,7 +19,7 @@ use Rattle.rules.specs.declared.Object.{Object}
 use Rattle.rules.specs.declared.Ring.{Ring}
 use Rattle.rules.specs.declared.Board.{Board}
 use Rattle.rules.specs.Tables.{pick, among}
-use Rattle.rules.specs.Book.{placeIn, waitedFor, modeAt, held, joined, welcome, struck, releaseArrives}
+use Rattle.rules.specs.Book.{placeIn, waitedFor, held, joined, welcome, struck, releaseArrives}
 use Rattle.rules.specs.Home.{granted}
 use Rattle.rules.specs.Lists.{noEntries, nothing, toHome, starter, starterOf, askedOf, addAll, withNext, started, listAtHome, listAtObject, looking, alongLeads, ringOf, noRing, keeping, requestArrives, entryDone}
 use Rattle.rules.specs.Board.{processAt, objectAt, kindAt, listAt, ringAt, putProcess, putObject, putRing, freed, send}

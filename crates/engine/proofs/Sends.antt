@@ -1,36 +1,22 @@
 -- A message that is sent takes the lowest free number: what the engine writes, by what it found, and its load.
 use mathlib.Core.Path.{_≡_, refl, sym, ap, _∙_}
 use mathlib.Core.Logic.{_≢_}
-use mathlib.Core.Bool.{Bool, true, false}
+use mathlib.Core.Bool.{true, false}
 use mathlib.Core.List.{List, [], _∷_}
 use Prim.Native.Nat.{ℕ, zero, suc, _+_, _-_, _≤_, _<_}
 use native.Mathlib.Omega.{arith}
-use borrow.Author.Tests.{ne-eqb}
-use lib.Dec.{ltb}
 use lib.ListN.{set, getD, length}
-use Rattle.rules.specs.declared.Mode.{Mode}
 use Rattle.rules.specs.declared.Kind.{Kind}
-use Rattle.rules.specs.declared.Kind.the-variants.{Free, Request, Grant, Release, ListToHome, ListToObject}
 use Rattle.rules.specs.declared.Entries.{Entries}
 use Rattle.rules.specs.declared.Message.{Message}
-use Rattle.rules.specs.declared.Process.{Process}
 use Rattle.rules.specs.declared.Object.{Object}
-use Rattle.rules.specs.declared.Ring.{Ring}
-use Rattle.rules.specs.declared.Arrived.{Arrived}
-use Rattle.rules.specs.declared.Looked.{Looked}
 use Rattle.rules.specs.declared.Board.{Board}
-use Rattle.rules.specs.Tables.{pick, among}
 use Rattle.rules.specs.Bits.{withBit, withoutBit, lowestFree}
-use Rattle.rules.specs.Book.{placeIn, waitedFor, modeAt, struck, releaseArrives}
-use Rattle.rules.specs.Home.{granted}
-use Rattle.rules.specs.Lists.{noEntries, nothing, starterOf, askedOf, listAtHome, looking, noRing, listAtObject, keeping, requestArrives, entryDone}
-use Rattle.rules.specs.Board.{with, noFlight, processAt, objectAt, kindAt, listAt, ringAt, putProcess, putObject, putRing, putMessage, freed, isMessage, send, kindLoad, load}
-use Rattle.rules.specs.Commands.{recording, delivered}
+use Rattle.rules.specs.Lists.{noEntries}
+use Rattle.rules.specs.Board.{with, noFlight, objectAt, kindAt, putObject, putMessage, freed, isMessage, send, kindLoad, load}
 use Rattle.rules.proofs.Bits.{without-same, lowest-free, lowest-free-some}
 use Rattle.rules.proofs.Tables.{not-passed, not-failed}
 use Rattle.rules.proofs.Load.{Matched, message-load, no-message, matched-free, send-sent, load-freed, load-free-number, load-object}
-use Rattle.engine.specs.Grants.{grantsLeft}
-use Rattle.engine.proofs.Granting.{grants-from}
 
 -- ---- a record that is read out of a table, with any default
 pub read-at : {A : Type 0} (xs : List A) (i j : ℕ) (d f : A) → i ≡ j → j < length xs → getD xs i d ≡ getD xs j f

@@ -8,7 +8,6 @@ use books::bits::wide;
 use rules::Board;
 use rules::Flight;
 use rules::Kind;
-use rules::Mode;
 use rules::Object;
 
 // There is a front, and it conflicts with no holder.
@@ -26,14 +25,11 @@ pub fn front_goes(o: Object) -> bool
 pub fn front_grant(book: Object, o: u8) -> Kind
     ensures { λ r. ⌜ r ≡ Kinds.Grant (Book.whoAt book 0) o (Book.modeAt book 0) ⌝ }
 {
-    let who = book.line[0];
-    if books::bits::has(book.line_exclusive, 0) {
-        return Kind::Grant(who, o, Mode::Exclusive);
-    }
-    Kind::Grant(who, o, Mode::Shared)
+    Kind::Grant(book.line[0], o, books::object::mode_at(book, 0))
 }
 
-// The grants after the first, on the whole board: seldom.
+// The grants after the first, each under the lowest free number. It is handed the whole board, since it sends, and reads and writes the
+// book of this object alone; a release that lets in more than one is seldom, so the loop of the engine does not carry it.
 pub fn grant_rest(start: Board, o: u8) -> Board
     requires { ⌜ LineAt start o ⌝ }
     ensures { λ r. ⌜ r ≡ grantsLeft start o ⌝ }

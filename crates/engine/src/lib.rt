@@ -1,5 +1,5 @@
-// The engine of the board: one loop that holds the board as one local and does every write. A handler sees small records alone. This is
-// the inner room of the bench, which asks for the shape first.
+// The engine of the board: one loop that holds the board as one local and does every write but those of grants after a first. A handler
+// of a message sees the one book that it acts on. This is the inner room of the bench, which asks for the shape first.
 ghost use Rattle.engine.specs.Ready.{Ready};
 ghost use Rattle.engine.specs.Work.{Reach, Worked};
 use books::bits::wide;

@@ -19,10 +19,9 @@ pub fn object_number(hi: u8, lo: u8) -> u8
 pub fn mode_of(kind: u8) -> Mode
     ensures { λ r. ⌜ r ≡ modeOf kind ⌝ }
 {
-    if kind == 0 {
-        Mode::Shared
-    } else {
-        Mode::Exclusive
+    match kind {
+        0 => Mode::Shared,
+        _ => Mode::Exclusive,
     }
 }
 
@@ -31,17 +30,20 @@ pub fn home_answer(kind: u8, p: u8, o: u8, processes: u8, objects: u8, book: Pro
     requires { ⌜ o < 16 ⌝ }
     ensures { λ r. ⌜ r ≡ homeAnswer kind p o processes objects book ⌝ }
 {
-    if kind == 2 {
-        return crate::answer::number(books::home::release_answer(p, o, processes, objects, book));
+    match kind {
+        2 => crate::answer::number(books::home::release_answer(p, o, processes, objects, book)),
+        _ => crate::answer::number(books::home::request_answer(p, o, processes, objects, book)),
     }
-    crate::answer::number(books::home::request_answer(p, o, processes, objects, book))
 }
 
 // The highest load at which the command is taken.
 pub fn top_load(kind: u8) -> usize
     ensures { λ r. ⌜ r ≡ topLoad kind ⌝ }
 {
-    if kind == 2 { 63 } else { 62 }
+    match kind {
+        2 => 63,
+        _ => 62,
+    }
 }
 
 // The home notes the wait, or drops the hold.
@@ -49,20 +51,20 @@ pub fn book_after(kind: u8, book: Process, o: u8) -> Process
     requires { ⌜ o < 16 ⌝ }
     ensures { λ r. ⌜ r ≡ bookAfter kind book o ⌝ }
 {
-    if kind == 2 {
-        return books::home::dropping(book, o);
+    match kind {
+        2 => books::home::dropping(book, o),
+        _ => books::home::asking(book, o, mode_of(kind)),
     }
-    books::home::asking(book, o, mode_of(kind))
 }
 
 // What the home sends.
 pub fn kind_sent(kind: u8, p: u8, o: u8) -> Kind
     ensures { λ r. ⌜ r ≡ kindSent kind p o ⌝ }
 {
-    if kind == 2 {
-        return Kind::Release(p, o);
+    match kind {
+        2 => Kind::Release(p, o),
+        _ => Kind::Request(p, o, mode_of(kind)),
     }
-    Kind::Request(p, o, mode_of(kind))
 }
 
 // The process that a list asks next.

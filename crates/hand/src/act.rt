@@ -178,7 +178,7 @@ fn tell_drained(made: usize, left: usize) {
 
 fn drain(desk: Desk, budget: usize) -> Acted {
     let old = desk.board;
-    let d = bench::drain(old, 0);
+    let d = bench::drain(old, budget);
     let a = d.answer;
     crate::say::answer(a);
     if !is_done(a) {
@@ -189,9 +189,9 @@ fn drain(desk: Desk, budget: usize) -> Acted {
     let r = drained(desk, budget);
     let next = r.desk;
     let new = next.board;
-    tell_drained(r.made, crate::desk::size(new.occupied));
+    tell_drained(d.made, crate::desk::size(new.occupied));
     tell_rings(old, new);
-    if r.made == 0 {
+    if d.made == 0 {
         return stay(desk);
     }
     keep(next)

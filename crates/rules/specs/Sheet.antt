@@ -107,20 +107,26 @@ wholeRun b s room n = record { ran = record { answer = Done; commands = n; board
 
 -- ---- one call for many commands on any board, which the paper does not name: it is what runs the commands part of a sheet.
 -- Being one call it asks the shape once, then for an odd byte, then for the room; it reads the fields, and spare bits are the sheet's.
+abbrev pub roomTests : List ℕ → List ℕ → List (Bool × Answer)
+roomTests s room = (eqb (length s % 2) 1, OddByte) ∷ (ltb (length room) (commandCount s), RoomTooShort) ∷ []
+
 abbrev pub runTests : Board → List ℕ → List ℕ → List (Bool × Answer)
-runTests b s room = (not (inShape b), OutOfShape)
-    ∷ (eqb (length s % 2) 1, OddByte)
-    ∷ (ltb (length room) (commandCount s), RoomTooShort) ∷ []
+runTests b s room = (not (inShape b), OutOfShape) ∷ roomTests s room
 
 unfoldable pub run : Board → List ℕ → List ℕ → Run
 run b s room = let a = firstOf (runTests b s room) in
     pick (done a) (wholeRun b s room (commandCount s)) (refusedRun a b room)
 
--- an opening and the commands on it in one call: the refusal of the opening, or what running them on its board hands back
+-- an opening and the commands on it in one call, on a board that is in shape: the opening's answer, then an odd byte, then the room.
+-- "Where a refused opening or sheet hands back a board by value, that board is all zeros."
+abbrev pub openingRunTests : Answer → List ℕ → List ℕ → List (Bool × Answer)
+openingRunTests opened s room = (not (done opened), opened) ∷ roomTests s room
+
 unfoldable pub runOpening : ℕ → ℕ → ℕ → List ℕ → List ℕ → List ℕ → List ℕ → Run
 runOpening nodes processes objects processHome objectHome s room =
     let opened = opening nodes processes objects processHome objectHome in
-    pick (done (opened .answer)) (run (opened .board) s room) (refusedRun (opened .answer) zeroBoard room)
+    let a = firstOf (openingRunTests (opened .answer) s room) in
+    pick (done a) (wholeRun (opened .board) s room (commandCount s)) (refusedRun a zeroBoard room)
 
 -- ---- the sheet
 abbrev pub afterHomes : List ℕ → List ℕ

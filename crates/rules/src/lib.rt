@@ -48,7 +48,7 @@ pub struct Entries {
     pub next: u8,
 }
 
-// A message as a handler takes and sends it: its kind, with a list's entries beside it.
+// A message as the rules take and send it: its kind, with a list's entries beside it.
 pub struct Message {
     pub kind: Kind,
     pub list: Entries,

@@ -1,26 +1,22 @@
--- A sheet run whole: a refused one hands back its answer and the board of zeros, and a good one is its commands run on its opening, which
--- is in shape. Assumes nothing.
-use mathlib.Core.Path.{_≡_, refl, sym, ap, ap₂, _∙_}
+-- A sheet run whole: a refused one hands back its answer and the board of zeros, and a good one is its commands run on its opening.
+-- Assumes nothing.
+use mathlib.Core.Path.{_≡_, refl, sym, ap, _∙_}
 use mathlib.Core.Bool.{true, false}
 use mathlib.Core.List.{List, []}
-use Prim.Native.Nat.{ℕ, _%_, _/_, _≤_, _<_}
+use Prim.Native.Nat.{ℕ, _%_, _≤_, _<_}
 use native.Mathlib.Omega.{arith}
 use lib.Dec.{eqb, ltb}
 use lib.ListN.{length}
-use borrow.Author.Tests.{lt-ltb, le-ltb, le-leb}
+use borrow.Author.Tests.{lt-ltb, le-leb}
 use Rattle.rules.specs.declared.Answer.{Answer}
-use Rattle.rules.specs.declared.Answer.the-variants.{Done, HomeOutside, SheetCut, WrongForm, SpareBit, OddByte, TooManyCommands, RoomTooShort}
+use Rattle.rules.specs.declared.Answer.the-variants.{Done, HomeOutside, SheetCut, WrongForm, SpareBit, OddByte, TooManyCommands}
 use Rattle.rules.specs.declared.Stepped.{Stepped}
-use Rattle.rules.specs.declared.Board.{Board}
 use Rattle.rules.specs.declared.Ran.{Ran}
 use Rattle.rules.specs.Answers.{number, done, firstOf}
 use Rattle.rules.specs.Commands.{zeroBoard, outside, homeOutside, opening}
-use Rattle.rules.specs.Shape.{inShape}
-use Rattle.rules.specs.Sheet as Rules
-use Rattle.rules.specs.Sheet.{Run, nodesOf, processesOf, objectsOf, processHomes, objectHomes, commandCount, afterHomes, readerAnswer, commandsPart, refusedRun, sheetAnswer, openingOf, runOpening, runSheet}
+use Rattle.rules.specs.Sheet.{Run, nodesOf, processesOf, objectsOf, processHomes, objectHomes, commandCount, afterHomes, readerAnswer, commandsPart, refusedRun, sheetAnswer, runOpening, runSheet}
 use Rattle.rules.proofs.Sheet.{field-below}
 use Rattle.laws.proofs.Ranges.{passed}
-use Rattle.laws.proofs.Opening.{opening-in-shape}
 use Rattle.reader.specs.declared.Head.{Head}
 use Rattle.reader.specs.Head.{headOf}
 use Rattle.sheet.specs.Head.{headTests}
@@ -63,20 +59,13 @@ module _ (s : List ℕ) where
     unfolding commandsPart
     part-is = rw good
 
-    in-shape : inShape (openingOf s) ≡ true
-    in-shape = opening-in-shape .inShape _ _ _ _ _ (opens (tests-passed .processes) (tests-passed .objects))
-
     part-even : eqb (length (commandsPart s) % 2) 1 ≡ false
     part-even = rw part-is (tests-passed .even)
 
-    -- the bench runs the commands on the opening
-    runs : (room : List ℕ) → commandCount (commandsPart s) ≤ length room → runOpening (nodesOf s) (processesOf s) (objectsOf s) (processHomes s) (objectHomes s) (commandsPart s) room ≡ runSheet s room
-    unfolding runOpening runSheet sheetAnswer firstOf Rules.run
-    runs room l = rw (opens (tests-passed .processes) (tests-passed .objects), in-shape, part-even, le-ltb (length room) (commandCount (commandsPart s)) l, good)
-
-    short : (room : List ℕ) → length room < commandCount (commandsPart s) → refusedRun RoomTooShort zeroBoard room ≡ runSheet s room
-    unfolding runSheet sheetAnswer firstOf
-    short room l = rw (lt-ltb (length room) (commandCount (commandsPart s)) l, good)
+    -- the bench runs the commands on the opening, and asks for the room
+    runs : (room : List ℕ) → runOpening (nodesOf s) (processesOf s) (objectsOf s) (processHomes s) (objectHomes s) (commandsPart s) room ≡ runSheet s room
+    unfolding runOpening runSheet sheetAnswer firstOf
+    runs room = rw (opens (tests-passed .processes) (tests-passed .objects), part-even, good)
 
   pub refuses : (room : List ℕ) → done (readerAnswer s) ≡ false → refusedRun (readerAnswer s) zeroBoard room ≡ runSheet s room
   unfolding runSheet sheetAnswer firstOf
@@ -101,12 +90,8 @@ module _ (s room : List ℕ) {h : Head} {a : Answer} {n : ℕ} (read : h ≡ hea
       let g : refusedRun a zeroBoard room ≡ runSheet s room = ap (λ (x : Answer). refusedRun x zeroBoard room) (sym same) ∙ refuses s room (ap done same ∙ refused s read tests is f) in
       (e ∙ ap (λ (x : Run). x .ran) g, ap (λ (x : Run). x .room) g)
 
-  module _ (e : n ≡ 0) {part : List ℕ} (p : part ≡ commandsPart s) where
-    pub run-short : length room < length part / 2 → {r : Ran} → r ≡ refusedRun RoomTooShort zeroBoard [] .ran → Runs s room r room
-    run-short l f = let g = short s (whole-good e) room (rw p at l) in (f ∙ ap (λ (x : Run). x .ran) g, ap (λ (x : Run). x .room) g)
-
-    pub run-good : length part / 2 ≤ length room → {r : Ran} {after : List ℕ}
-        → (r ≡ runOpening (h .nodes) (h .processes) (h .objects) (h .«process_home») (h .«object_home») part room .ran) × (after ≡ runOpening (h .nodes) (h .processes) (h .objects) (h .«process_home») (h .«object_home») part room .room) → Runs s room r after
-    run-good l x =
-        let g : runOpening (h .nodes) (h .processes) (h .objects) (h .«process_home») (h .«object_home») part room ≡ runSheet s room = rw (read, p) (runs s (whole-good e) room (rw p at l)) in
-        (x .0 ∙ ap (λ (y : Run). y .ran) g, x .1 ∙ ap (λ (y : Run). y .room) g)
+  pub run-good : n ≡ 0 → {part : List ℕ} → part ≡ commandsPart s → {r : Ran} {after : List ℕ}
+      → (r ≡ runOpening (h .nodes) (h .processes) (h .objects) (h .«process_home») (h .«object_home») part room .ran) × (after ≡ runOpening (h .nodes) (h .processes) (h .objects) (h .«process_home») (h .«object_home») part room .room) → Runs s room r after
+  run-good e {part} p x =
+      let g : runOpening (h .nodes) (h .processes) (h .objects) (h .«process_home») (h .«object_home») part room ≡ runSheet s room = rw (read, p) (runs s (whole-good e) room) in
+      (x .0 ∙ ap (λ (y : Run). y .ran) g, x .1 ∙ ap (λ (y : Run). y .room) g)

@@ -60,9 +60,6 @@ pub fn run(s: &[u8], room: &mut [u8]) -> Ran
     }
     let start = h.start;
     let part = reader::rest_from(s, 8 * start);
-    if room.len() < part.len() / 2 {
-        return refused(Answer::RoomTooShort);
-    }
     let process_home = h.process_home;
     let object_home = h.object_home;
     bench::run_opening(

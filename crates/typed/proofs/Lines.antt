@@ -1,7 +1,7 @@
 -- Laws of the reading of a line: its words after the verb are taken one after another. Assumes nothing.
-use mathlib.Core.Path.{_≡_, refl, sym, ap, _∙_}
-use mathlib.Core.List.{List, [], _∷_}
-use Prim.Native.Nat.{ℕ, suc, _≤_, _<_}
+use mathlib.Core.Path.{_≡_, sym, ap, _∙_}
+use mathlib.Core.List.{List}
+use Prim.Native.Nat.{ℕ, _≤_, _<_}
 use lib.ListN.{length, drop}
 use Rattle.typed.specs.declared.Verb.the-variants.{Blank}
 use Rattle.typed.specs.declared.Meaning.{Meaning}

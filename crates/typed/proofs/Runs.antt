@@ -3,13 +3,12 @@
 use mathlib.Core.Path.{_≡_, refl, sym, ap, _∙_}
 use mathlib.Core.Bool.{Bool, true, false, not}
 use mathlib.Core.List.{List, [], _∷_}
-use Prim.Native.Nat.{ℕ, zero, suc, _+_, _-_, _≤_, _<_}
+use Prim.Native.Nat.{ℕ, suc, _+_, _-_, _≤_, _<_}
 use native.Mathlib.Numerals.{add-one}
 use native.Mathlib.Omega.{arith}
-use lib.ListN.{length, getD, take, drop, length-drop, drop-of-length-le}
+use lib.ListN.{length, getD, drop, length-drop, drop-of-length-le}
 use lib.Seq.{drop-cons, drop-drop}
-use Rattle.rules.proofs.Tables.{by-test, true-not-false}
-use Rattle.typed.specs.declared.words.Span.{Span}
+use Rattle.rules.proofs.Tables.{by-test}
 use Rattle.typed.specs.Words.{blank, ofSort, run, wordAt, wordsFrom, words}
 use Rattle.typed.specs.Spans.{part, NextWord}
 

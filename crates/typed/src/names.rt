@@ -1,7 +1,5 @@
 // The names of the verbs and of the modes.
 ghost use mathlib.Core.Path.{_≡_};
-ghost use Prim.Native.Nat.{_≤_};
-ghost use lib.ListN.{length};
 ghost use Rattle.typed.specs.Names as Names;
 ghost use Rattle.typed.specs.Words as Words;
 use crate::Verb;

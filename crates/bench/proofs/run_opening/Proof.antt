@@ -1,11 +1,13 @@
 -- `bench::run_opening` meets its contract: the opening, an odd byte and the room, then the engine. Assumes nothing.
 use mathlib.Core.Path.{_≡_, refl, sym, ap, _∙_}
-use mathlib.Core.List.{List}
+use mathlib.Core.List.{List, []}
 use Prim.Native.Nat.{ℕ}
 use borrow.Author.Needs.{needs}
+use Rattle.rules.specs.declared.Answer.the-variants.{OddByte, RoomTooShort}
+use Rattle.rules.specs.declared.Board.{Board}
 use Rattle.rules.specs.declared.Ran.{Ran}
-use Rattle.rules.specs.Sheet.{Run}
-use Rattle.bench.proofs.Calls.{opening-ends, opening-shaped, opening-ready, opening-runs, run-odd, run-short, run-whole}
+use Rattle.rules.specs.Sheet.{Run, refusedRun}
+use Rattle.bench.proofs.Calls.{opening-ends, opening-ready, opening-odd, opening-short, opening-whole}
 use Rattle.engine.proofs.Working.{for-sheet}
 use Rattle.bench.proofs.run_opening.Statement.{statement}
 use Rattle.bench.proofs.run_opening.Tie as tie
@@ -30,29 +32,31 @@ returns c =
     let n = c .before .before .number in
     both (opening-ends (a .nodes) (a .processes) (a .objects) (a .process-home) (a .object-home) (o .«open» .result) (o .«open» .ensures) (n .result) (n .ensures) (a .s .now) (a .room .now) (c .before .if1 .taken)) (c .refused .ensures) refl
 
+zero-board-requires : tie.Need-zero-board-requires
+zero-board-requires c κs = search needs
+
 refused-requires-2 : tie.Need-refused-requires-2
 refused-requires-2 c κs = search needs
 
 returns-2 : tie.Need-returns-2
 returns-2 c =
-    let o = c .before .before .before .before in
+    let o = c .before .before .before .before .before in
     let a = o .before .before .before .args in
-    let n = c .before .before .before .number in
-    let z = c .before .before .if1 .left in
-    let shaped = opening-shaped (a .nodes) (a .processes) (a .objects) (a .process-home) (a .object-home) (o .«open» .result) (o .«open» .ensures) (n .result) (n .ensures) (a .s .now) (a .room .now) z in
-    both (opening-runs (a .nodes) (a .processes) (a .objects) (a .process-home) (a .object-home) (o .«open» .result) (o .«open» .ensures) (n .result) (n .ensures) (a .s .now) (a .room .now) z ∙ run-odd (o .«open» .result .board) (a .s .now) (a .room .now) shaped (c .before .if2 .taken)) (c .refused2 .ensures) refl
+    let n = c .before .before .before .before .number in
+    both (opening-odd (a .nodes) (a .processes) (a .objects) (a .process-home) (a .object-home) (o .«open» .result) (o .«open» .ensures) (n .result) (n .ensures) (a .s .now) (a .room .now) (c .before .before .before .if1 .left) (c .before .before .if2 .taken)) (c .refused2 .ensures ∙ ap (λ (b : Board). refusedRun OddByte b [] .ran) (c .before .zero-board .ensures)) refl
+
+zero-board-requires-2 : tie.Need-zero-board-requires-2
+zero-board-requires-2 c κs = search needs
 
 refused-requires-3 : tie.Need-refused-requires-3
 refused-requires-3 c κs = search needs
 
 returns-3 : tie.Need-returns-3
 returns-3 c =
-    let o = c .before .before .before .before .before in
+    let o = c .before .before .before .before .before .before in
     let a = o .before .before .before .args in
-    let n = c .before .before .before .before .number in
-    let z = c .before .before .before .if1 .left in
-    let shaped = opening-shaped (a .nodes) (a .processes) (a .objects) (a .process-home) (a .object-home) (o .«open» .result) (o .«open» .ensures) (n .result) (n .ensures) (a .s .now) (a .room .now) z in
-    both (opening-runs (a .nodes) (a .processes) (a .objects) (a .process-home) (a .object-home) (o .«open» .result) (o .«open» .ensures) (n .result) (n .ensures) (a .s .now) (a .room .now) z ∙ run-short (o .«open» .result .board) (a .s .now) (a .room .now) shaped (c .before .before .if2 .left) (c .before .if3 .taken)) (c .refused3 .ensures) refl
+    let n = c .before .before .before .before .before .number in
+    both (opening-short (a .nodes) (a .processes) (a .objects) (a .process-home) (a .object-home) (o .«open» .result) (o .«open» .ensures) (n .result) (n .ensures) (a .s .now) (a .room .now) (c .before .before .before .before .if1 .left) (c .before .before .before .if2 .left) (c .before .before .if3 .taken)) (c .refused3 .ensures ∙ ap (λ (b : Board). refusedRun RoomTooShort b [] .ran) (c .before .zero-board2 .ensures)) refl
 
 turns-requires : tie.Need-turns-requires
 turns-requires c κs =
@@ -69,10 +73,8 @@ returns-4 c =
     let o = c .before .before .before .before .before .before .before .before in
     let a = o .before .before .before .args in
     let n = c .before .before .before .before .before .before .before .number in
-    let z = c .before .before .before .before .before .before .if1 .left in
-    let shaped = opening-shaped (a .nodes) (a .processes) (a .objects) (a .process-home) (a .object-home) (o .«open» .result) (o .«open» .ensures) (n .result) (n .ensures) (a .s .now) (a .room .now) z in
     let w = c .before .before .turns .ensures .sheet refl in
-    both (opening-runs (a .nodes) (a .processes) (a .objects) (a .process-home) (a .object-home) (o .«open» .result) (o .«open» .ensures) (n .result) (n .ensures) (a .s .now) (a .room .now) z ∙ run-whole (o .«open» .result .board) (a .s .now) (a .room .now) shaped (c .before .before .before .before .before .if2 .left) (c .before .before .before .before .if3 .left)) (w .0) (w .1)
+    both (opening-whole (a .nodes) (a .processes) (a .objects) (a .process-home) (a .object-home) (o .«open» .result) (o .«open» .ensures) (n .result) (n .ensures) (a .s .now) (a .room .now) (c .before .before .before .before .before .before .if1 .left) (c .before .before .before .before .before .if2 .left) (c .before .before .before .before .if3 .left)) (w .0) (w .1)
 
 pub run-opening-spec : {M : Type 1} → statement M
 run-opening-spec =
@@ -82,8 +84,10 @@ run-opening-spec =
     number-requires
     refused-requires
     returns
+    zero-board-requires
     refused-requires-2
     returns-2
+    zero-board-requires-2
     refused-requires-3
     returns-3
     turns-requires

@@ -2,7 +2,7 @@
 use native.Mathlib.Omega.{arith}
 use Rattle.sheet.proofs.Order.{few-homes, few-nodes, early-start}
 use Rattle.sheet.proofs.Parts.{rest-of-good}
-use Rattle.sheet.proofs.Runs.{run-refused, run-short, run-good}
+use Rattle.sheet.proofs.Runs.{run-refused, run-good}
 use borrow.Author.Needs.{needs}
 use Rattle.sheet.proofs.run.Statement.{statement}
 use Rattle.sheet.proofs.run.Tie as tie
@@ -31,30 +31,19 @@ mul-rest-from c = omega (arith, early-start (c .before .before .before .before .
 rest-from-requires : tie.Need-rest-from-requires
 rest-from-requires c κs = search needs
 
-refused-requires-2 : tie.Need-refused-requires-2
-refused-requires-2 c κs = search needs
-
-returns-2 : tie.Need-returns-2
-returns-2 c =
-    let n = c .before .before .before .before in
-    let a = n .before .before .before .before .before .args in
-    let part = rest-of-good (a .s .now) (n .before .before .read-head .ensures) (n .before .tested .ensures) (n .number .ensures) (c .before .before .before .if1 .left) (c .before .before .rest-from .ensures) in
-    run-short (a .s .now) (a .room .now) (n .before .before .read-head .ensures) (n .before .tested .ensures) (n .number .ensures) (c .before .before .before .if1 .left) part
-    (c .before .if2 .taken) (c .refused2 .ensures)
-
 cast-run-opening : tie.Need-cast-run-opening
 cast-run-opening c =
-    let h = c .before .before .before .before .before .before .before .before in
+    let h = c .before .before .before .before .before .before .before in
     omega (arith, few-nodes (h .before .before .before .args .s .now) (h .read-head .ensures))
 
 cast-run-opening-2 : tie.Need-cast-run-opening-2
 cast-run-opening-2 c =
-    let h = c .before .before .before .before .before .before .before .before .before in
+    let h = c .before .before .before .before .before .before .before .before in
     omega (arith, few-homes (h .before .before .before .args .s .now) (h .read-head .ensures))
 
 cast-run-opening-3 : tie.Need-cast-run-opening-3
 cast-run-opening-3 c =
-    let h = c .before .before .before .before .before .before .before .before .before .before in
+    let h = c .before .before .before .before .before .before .before .before .before in
     omega (arith, few-homes (h .before .before .before .args .s .now) (h .read-head .ensures))
 
 run-opening-requires : tie.Need-run-opening-requires
@@ -63,13 +52,13 @@ run-opening-requires c κs = search needs
 same-length : tie.Need-same-length
 same-length c = search needs
 
-returns-3 : tie.Need-returns-3
-returns-3 c =
-    let n = c .before .before .before .before .before .before .before .before .before .before .before .before in
+returns-2 : tie.Need-returns-2
+returns-2 c =
+    let n = c .before .before .before .before .before .before .before .before .before .before .before in
     let a = n .before .before .before .before .before .args in
-    let g = c .before .before .before .before .before .before .before .before .before .before .before .if1 .left in
-    let part = rest-of-good (a .s .now) (n .before .before .read-head .ensures) (n .before .tested .ensures) (n .number .ensures) g (c .before .before .before .before .before .before .before .before .before .before .rest-from .ensures) in
-    run-good (a .s .now) (a .room .now) (n .before .before .read-head .ensures) (n .before .tested .ensures) (n .number .ensures) g part (c .before .before .before .before .before .before .before .before .before .if2 .left) (c .before .before .run-opening .ensures)
+    let g = c .before .before .before .before .before .before .before .before .before .before .if1 .left in
+    let part = rest-of-good (a .s .now) (n .before .before .read-head .ensures) (n .before .tested .ensures) (n .number .ensures) g (c .before .before .before .before .before .before .before .before .before .rest-from .ensures) in
+    run-good (a .s .now) (a .room .now) (n .before .before .read-head .ensures) (n .before .tested .ensures) (n .number .ensures) g part (c .before .before .run-opening .ensures)
 
 pub run-spec : {M : Type 1} → statement M
 run-spec =
@@ -82,11 +71,9 @@ run-spec =
     returns
     mul-rest-from
     rest-from-requires
-    refused-requires-2
-    returns-2
     cast-run-opening
     cast-run-opening-2
     cast-run-opening-3
     run-opening-requires
     same-length
-    returns-3)
+    returns-2)

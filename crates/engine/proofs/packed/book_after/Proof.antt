@@ -10,7 +10,7 @@ dropping-requires c κs = search needs
 
 returns : tie.Need-returns
 unfolding bookAfter
-returns c = rw (eq-eqb _ 2 (c .before .if1 .taken)) (c .dropping .ensures)
+returns c = rw (eq-eqb _ 2 (c .before .match .keys1)) (c .dropping .ensures)
 
 mode-of-requires : tie.Need-mode-of-requires
 mode-of-requires c κs = search needs
@@ -20,8 +20,8 @@ asking-requires c κs = search needs
 
 returns-2 : tie.Need-returns-2
 unfolding bookAfter
-returns-2 c = rw (ne-eqb _ 2 (c .before .before .if1 .left)) (rw (← c .before .mode-of .ensures) (c .asking .ensures))
+returns-2 c = rw (ne-eqb _ 2 (c .before .before .match .rest .1)) (rw (← c .before .mode-of .ensures) (c .asking .ensures))
 
 pub book-after-spec : {M : Type 1} → statement M
 book-after-spec =
-    tie.close (tie.spec dropping-requires returns mode-of-requires asking-requires returns-2)
+    tie.close (tie.spec dropping-requires mode-of-requires asking-requires returns returns-2)

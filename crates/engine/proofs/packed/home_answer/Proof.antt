@@ -15,7 +15,7 @@ number-requires c κs = search needs
 
 returns : tie.Need-returns
 unfolding homeAnswer
-returns c = rw (eq-eqb _ 2 (c .before .before .if1 .taken)) (c .number .ensures ∙ ap number (c .before .release-answer .ensures))
+returns c = rw (eq-eqb _ 2 (c .before .before .match .keys1)) (c .number .ensures ∙ ap number (c .before .release-answer .ensures))
 
 request-answer-requires : tie.Need-request-answer-requires
 request-answer-requires c κs = search needs
@@ -25,15 +25,8 @@ number-requires-2 c κs = search needs
 
 returns-2 : tie.Need-returns-2
 unfolding homeAnswer
-returns-2 c = rw (ne-eqb _ 2 (c .before .before .if1 .left)) (c .number2 .ensures ∙ ap number (c .before .request-answer .ensures))
+returns-2 c = rw (ne-eqb _ 2 (c .before .before .match .rest .1)) (c .number2 .ensures ∙ ap number (c .before .request-answer .ensures))
 
 pub home-answer-spec : {M : Type 1} → statement M
 home-answer-spec =
-    tie.close
-    (tie.spec
-    release-answer-requires
-    number-requires
-    returns
-    request-answer-requires
-    number-requires-2
-    returns-2)
+    tie.close (tie.spec release-answer-requires number-requires request-answer-requires number-requires-2 returns returns-2)

@@ -7,14 +7,14 @@ use Rattle.engine.proofs.packed.kind_sent.Tie as tie
 
 returns : tie.Need-returns
 unfolding kindSent
-returns c = rw (eq-eqb _ 2 (c .if1 .taken))
+returns c = rw (eq-eqb _ 2 (c .match .keys1))
 
 mode-of-requires : tie.Need-mode-of-requires
 mode-of-requires c κs = search needs
 
 returns-2 : tie.Need-returns-2
 unfolding kindSent
-returns-2 c = rw (ne-eqb _ 2 (c .before .if1 .left)) (rw (← c .mode-of .ensures))
+returns-2 c = rw (ne-eqb _ 2 (c .before .match .rest .1)) (rw (← c .mode-of .ensures))
 
 pub kind-sent-spec : {M : Type 1} → statement M
-kind-sent-spec = tie.close (tie.spec returns mode-of-requires returns-2)
+kind-sent-spec = tie.close (tie.spec mode-of-requires returns returns-2)
