@@ -2,3 +2,4 @@
 pub mod Packing
 pub mod Homes
 pub mod Calls
+pub mod Determined

@@ -6,3 +6,4 @@ pub mod Waited
 pub mod Rings
 pub mod Shift
 pub mod Answers
+pub mod Determined

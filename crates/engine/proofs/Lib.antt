@@ -6,3 +6,4 @@ pub mod Arrivals
 pub mod Releases
 pub mod Turn
 pub mod Working
+pub mod Determined

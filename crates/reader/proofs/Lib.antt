@@ -5,3 +5,4 @@ pub mod Held
 pub mod Lent
 pub mod Rows
 pub mod Heads
+pub mod Determined

@@ -17,7 +17,7 @@ use Rattle.rules.specs.declared.Stepped.{Stepped}
 use Rattle.bench.proofs.step as by-value
 use Rattle.room.proofs.step_in as step-in
 use Rattle.room.proofs.step_lent as step-lent
-use Rattle.room.specs.OneResult.{ByValue, InRoom, OneResult, NoOtherByValue, NoOtherInRoom}
+use Rattle.room.specs.OneResult.{ByValue, InRoom, OneResult}
 
 module _ {M : Type 1} (𝓤 : URA M) (H : Heap 𝓤) (A : Atoms 𝓤) (mem : Memory → SProp 𝓤) (run : Routine → Fun 𝓤) where
   pub by-value-says : (b : Board) (c : Command) (r : Stepped) → by-value.clauses 𝓤 H A mem run tt (b, (c, tt)) .ensures tt r (b, (c, tt)) ≡ fact 𝓤 (ByValue b c r)
@@ -31,9 +31,3 @@ module _ {M : Type 1} (𝓤 : URA M) (H : Heap 𝓤) (A : Atoms 𝓤) (mem : Mem
 
 pub one-result : OneResult
 one-result b c r answer after value room = (room .0 ∙ sym (ap (λ (y : Stepped). y .answer) value), room .1 ∙ sym (ap (λ (y : Stepped). y .board) value))
-
-pub no-other-by-value : NoOtherByValue
-no-other-by-value b c r other one two = one ∙ sym two
-
-pub no-other-in-room : NoOtherInRoom
-no-other-in-room b c answer other after left one two = (one .0 ∙ sym (two .0), one .1 ∙ sym (two .1))

@@ -17,10 +17,3 @@ InRoom b c answer after = (answer ≡ step b c .answer) × (after ≡ step b c .
 -- "both give one result": the same answer and the same board, refusals too
 abbrev pub OneResult : Type 0
 OneResult = (b : Board) (c : Command) (r : Stepped) (answer : Answer) (after : Board) → ByValue b c r → InRoom b c answer after → (answer ≡ r .answer) × (after ≡ r .board)
-
--- either way there is no second result
-abbrev pub NoOtherByValue : Type 0
-NoOtherByValue = (b : Board) (c : Command) (r other : Stepped) → ByValue b c r → ByValue b c other → r ≡ other
-
-abbrev pub NoOtherInRoom : Type 0
-NoOtherInRoom = (b : Board) (c : Command) (answer other : Answer) (after left : Board) → InRoom b c answer after → InRoom b c other left → (answer ≡ other) × (after ≡ left)

@@ -6,3 +6,4 @@ pub mod Lists
 pub mod Load
 pub mod Sheet
 pub mod Cases
+pub mod Determined

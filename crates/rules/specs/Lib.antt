@@ -12,3 +12,4 @@ pub mod Waits
 pub mod Sheet
 pub mod Cases
 pub mod Ranges
+pub mod Determined

@@ -1,3 +1,4 @@
 -- Laws that the proofs of the functions share.
 pub mod Tests
 pub mod Noted
+pub mod Determined

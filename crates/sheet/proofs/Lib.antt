@@ -5,3 +5,4 @@ pub mod Order
 pub mod Parts
 pub mod Runs
 pub mod Longer
+pub mod Determined

@@ -5,3 +5,4 @@ pub mod Decimals
 pub mod Lines
 pub mod Filling
 pub mod Examples
+pub mod Determined

@@ -1,0 +1,2 @@
+-- The contract determines its result.
+pub mod Determined
