@@ -24,7 +24,7 @@ pub fn once(b: Board, hi: u8, lo: u8) -> Stepped
     }
 }
 
-// A number that no packed field holds is refused at once.
+// A number at or above its count, or no mode, is refused at once; what is left fits the packed fields.
 pub fn request(b: Board, p: u8, o: u8, m: u8) -> Stepped
     requires { ⌜ Ready b ⌝ }
     ensures { λ r. ⌜ r ≡ turn b (Do.Request p o m) ⌝ }

@@ -39,7 +39,7 @@ pub fn field(s: &[u8], at: usize, n: usize) -> usize
     v
 }
 
-// How much of n is read at a bit: at most 16 bits or 16 homes, and none far past any sheet.
+// How much of n is read at a bit: all of it, or none where n is above 16 or the bit far past any sheet.
 pub fn within(at: usize, n: usize) -> usize
     ensures { λ r. ⌜ (r ≡ Place.within at n) × (r ≤ 16) × (at + 3 * r < 2 ^ 64) ⌝ }
 {
