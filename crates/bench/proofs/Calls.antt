@@ -8,19 +8,18 @@ use borrow.Author.Tests.{ne-eqb, lt-ltb, le-ltb}
 use lib.ListN.{length}
 use Rattle.rules.specs.declared.Board.{Board}
 use Rattle.rules.specs.declared.Command.{Command}
-use Rattle.rules.specs.declared.Answer.{Answer}
 use Rattle.rules.specs.declared.Answer.the-variants.{Done, OutOfShape, OddByte, RoomTooShort}
 use Rattle.rules.specs.declared.Stepped.{Stepped}
 use Rattle.rules.specs.declared.Drained.{Drained}
 use Rattle.rules.specs.Answers.{number, firstOf}
-use Rattle.rules.specs.Commands.{turn, draining, zeroBoard, emptyBoard, homesOf, openingTests, opening}
+use Rattle.rules.specs.Commands.{turn, draining, zeroBoard, opening}
 use Rattle.rules.specs.Shape.{inShape, step, drain}
 use Rattle.rules.specs.Sheet.{refusedRun, wholeRun, run, runOpening}
 use Rattle.laws.proofs.Opening.{opening-in-shape}
-use Rattle.bench.specs.Packed.{answerOf}
+use Rattle.values.specs.Numbers.{answerOf}
+use Rattle.values.proofs.Numbers.{answer-back}
 use Rattle.engine.specs.Ready.{Ready}
 use Rattle.engine.proofs.Ready.{shape-ready}
-use Rattle.bench.proofs.Packing.{answer-back}
 
 -- ---- one command
 pub step-refused : (b : Board) (c : Command) → inShape b ≡ false → _≡_ {A = Stepped} (record { answer = OutOfShape; board = b }) (step b c)
@@ -30,16 +29,6 @@ step-refused b c e = rw e
 pub step-taken : (b : Board) (c : Command) → inShape b ≡ true → turn b c ≡ step b c
 unfolding step
 step-taken b c e = rw e
-
--- ---- an opening
-module _ (n p o : ℕ) (hp ho : List ℕ) (a : Answer) (e : a ≡ firstOf (openingTests n p o hp ho)) (k : ℕ) (g : k ≡ number a) where
-  pub opening-refused : k ≢ 0 → (z : Board) → z ≡ zeroBoard → _≡_ {A = Stepped} (record { answer = a; board = z }) (opening n p o hp ho)
-  unfolding opening
-  opening-refused h z f = rw (f, ← e, ne-eqb (number a) 0 (λ q. h (g ∙ q)))
-
-  pub opening-taken : k ≡ 0 → (x y : List ℕ) → x ≡ homesOf p hp → y ≡ homesOf o ho → (z : Board) → z ≡ emptyBoard n p o x y → _≡_ {A = Stepped} (record { answer = a; board = z }) (opening n p o hp ho)
-  unfolding opening
-  opening-taken h x y ex ey z f = rw (f, ex, ey, ← e, ← g, h)
 
 -- ---- many commands
 module _ (b : Board) (s room : List ℕ) where

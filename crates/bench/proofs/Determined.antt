@@ -11,13 +11,10 @@ use Prim.Native.Nat.{ℕ}
 use mathlib.Core.List.{List}
 use Rattle.rules.specs.declared.Command.the-variants as Do
 use Rattle.rules.specs.declared.Ran.{Ran}
-use Rattle.rules.specs.Answers as Answers
-use Rattle.rules.specs.Commands as Commands
 use Rattle.rules.specs.Shape as Shape
 use Rattle.rules.specs.Sheet as Sheet
 use Rattle.rules.specs.Determined.{Determined}
 use Rattle.rules.proofs.Determined.{by-equation, by-equations}
-use Rattle.bench.proofs.open as opening
 use Rattle.bench.proofs.step as step
 use Rattle.bench.proofs.request as request
 use Rattle.bench.proofs.release as release
@@ -25,12 +22,8 @@ use Rattle.bench.proofs.deliver as deliver
 use Rattle.bench.proofs.run as many
 use Rattle.bench.proofs.run_opening as from-opening
 use Rattle.bench.proofs.drain as drain
-use Rattle.bench.proofs.number as number
 
 module _ {M : Type 1} (𝓤 : URA M) (H : Heap 𝓤) (A : Atoms 𝓤) (mem : Memory → SProp 𝓤) (run : Routine → Fun 𝓤) where
-  pub open-determined : Determined opening.ended (opening.clauses 𝓤 H A mem run) (λ κs r e. r)
-  open-determined = by-equation (λ κs a. Commands.opening (a .0) (a .1 .0) (a .1 .1 .0) (a .1 .1 .1 .0) (a .1 .1 .1 .1 .0)) (λ κs a g r e. refl)
-
   pub step-determined : Determined step.ended (step.clauses 𝓤 H A mem run) (λ κs r e. r)
   step-determined = by-equation (λ κs a. Shape.step (a .0) (a .1 .0)) (λ κs a g r e. refl)
 
@@ -54,6 +47,3 @@ module _ {M : Type 1} (𝓤 : URA M) (H : Heap 𝓤) (A : Atoms 𝓤) (mem : Mem
 
   pub drain-determined : Determined drain.ended (drain.clauses 𝓤 H A mem run) (λ κs r e. r)
   drain-determined = by-equation (λ κs a. Shape.drain (a .0) (a .1 .0)) (λ κs a g r e. refl)
-
-  pub number-determined : Determined number.ended (number.clauses 𝓤 H A mem run) (λ κs r e. r)
-  number-determined = by-equation (λ κs a. Answers.number (a .0)) (λ κs a g r e. refl)

@@ -1,5 +1,4 @@
 -- Laws of the public calls.
 pub mod Packing
-pub mod Homes
 pub mod Calls
 pub mod Determined

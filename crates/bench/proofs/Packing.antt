@@ -1,58 +1,22 @@
 -- One command by value: packed into two bytes it is the command itself, its answer's number stands for its answer, and a number that
 -- no packed field holds is refused by its first tests.
 use mathlib.Core.Path.{_≡_, refl, _∙_}
-use mathlib.Core.Logic.{_≢_}
 use mathlib.Core.List.{List, [], _∷_}
-use Prim.Native.Nat.{ℕ, zero, suc, _+_, _*_, _/_, _%_, _≤_, _<_}
+use Prim.Native.Nat.{ℕ, _+_, _*_, _/_, _%_, _≤_, _<_}
 use native.Mathlib.Omega.{arith}
 use borrow.Author.Tests.{lt-ltb, le-ltb, le-leb, lt-leb}
-use lib.ListN.{getD, length}
+use lib.ListN.{getD}
 use Rattle.rules.specs.declared.Board.{Board}
 use Rattle.rules.specs.declared.Command.the-variants as Do
 use Rattle.rules.specs.declared.Answer.{Answer}
-use Rattle.rules.specs.declared.Answer.the-variants.{Done, CountOutside, HomeOutside, NoProcess, NoObject, NoMode, ProcessWaits, HasReleased, HoldsAlready, HoldsNot, LoadTooHigh, NoMessage, SheetCut, WrongForm, SpareBit, OddByte, TooManyCommands, OutOfShape, RoomTooShort}
+use Rattle.rules.specs.declared.Answer.the-variants.{NoProcess, NoObject, NoMode, NoMessage}
 use Rattle.rules.specs.declared.Stepped.{Stepped}
-use Rattle.rules.specs.Answers.{number, firstOf}
+use Rattle.rules.specs.Answers.{firstOf}
 use Rattle.rules.specs.Commands.{answerTo, turn}
 use Rattle.rules.specs.Sheet.{commandAt, boardAfter, roomAfter}
 use Rattle.rules.proofs.Sheet.{command-bytes}
-use Rattle.bench.specs.Packed.{answers, answerOf}
-
--- ---- numbers of answers
-pub answer-back : (a : Answer) → answerOf (number a) ≡ a
-unfolding answerOf
-answer-back Done = refl
-answer-back CountOutside = refl
-answer-back HomeOutside = refl
-answer-back NoProcess = refl
-answer-back NoObject = refl
-answer-back NoMode = refl
-answer-back ProcessWaits = refl
-answer-back HasReleased = refl
-answer-back HoldsAlready = refl
-answer-back HoldsNot = refl
-answer-back LoadTooHigh = refl
-answer-back NoMessage = refl
-answer-back SheetCut = refl
-answer-back WrongForm = refl
-answer-back SpareBit = refl
-answer-back OddByte = refl
-answer-back TooManyCommands = refl
-answer-back OutOfShape = refl
-answer-back RoomTooShort = refl
-
-past : {A : Type 0} (l : List A) (d : A) (n : ℕ) → length l ≤ n → getD l n d ≡ d
-past [] d n h = refl
-past (x ∷ l) d zero h = absurd (omega (arith, h))
-past (x ∷ l) d (suc n) h = past l d n (omega (arith, h))
-
--- past one number and not the next, past the next
-pub above : (n k : ℕ) → k ≤ n → n ≢ k → suc k ≤ n
-above n k h f = omega (arith, h, f)
-
-pub answer-past : (n : ℕ) → 18 ≤ n → answerOf n ≡ RoomTooShort
-unfolding answerOf
-answer-past n h = past answers RoomTooShort n h
+use Rattle.values.specs.Numbers.{answerOf}
+use Rattle.values.proofs.Numbers.{answer-back}
 
 -- ---- one command through the engine
 pub once-turns : (b : Board) (s : List ℕ) (next : Board) (room : List ℕ) → next ≡ boardAfter b s 1 → room ≡ roomAfter b s (0 ∷ []) 1

@@ -19,7 +19,7 @@ pub fn once(b: Board, hi: u8, lo: u8) -> Stepped
     let r = engine::turns(b, &s, false, 1, &mut room);
     let next = r.board;
     Stepped {
-        answer: crate::answer::answer_of(room[0]),
+        answer: values::answer::answer_of(room[0]),
         board: next,
     }
 }

@@ -1,10 +1,8 @@
-// The board: an opening, the commands one by one, many at once, and the drain. Each is equal to its rule, on every board and for all
-// numbers. A call on a board asks for its shape once, at its start.
+// The board: the commands one by one, many at once, an opening and its commands, and the drain. Each is equal to its rule, on every board
+// and for all numbers. A call on a board asks for its shape once, at its start.
 ghost use mathlib.Core.Path.{_≡_};
 ghost use mathlib.Core.List.{[]};
 ghost use Rattle.rules.specs.declared.Command.the-variants as Do;
-ghost use Rattle.rules.specs.Answers as Answers;
-ghost use Rattle.rules.specs.Commands.{opening};
 ghost use Rattle.rules.specs.Shape as Rules;
 ghost use Rattle.rules.specs.Sheet as Sheet;
 use rules::Answer;
@@ -14,35 +12,8 @@ use rules::Drained;
 use rules::Ran;
 use rules::Stepped;
 
-mod answer;
 mod commands;
 mod guard;
-mod opening;
-
-// Counts of nodes, processes and objects, and the homes of the processes and of the objects.
-pub fn open(
-    nodes: u8,
-    processes: u8,
-    objects: u8,
-    process_home: [u8; 16],
-    object_home: [u8; 16],
-) -> Stepped
-    ensures { λ r. ⌜ r ≡ opening nodes processes objects «process_home» «object_home» ⌝ }
-{
-    let answer = opening::opening_answer(nodes, processes, objects, process_home, object_home);
-    if engine::answer::number(answer) != 0 {
-        return Stepped {
-            answer: answer,
-            board: opening::zero_board(),
-        };
-    }
-    let kept_processes = opening::homes_of(processes, process_home);
-    let kept_objects = opening::homes_of(objects, object_home);
-    Stepped {
-        answer: answer,
-        board: opening::empty_board(nodes, processes, objects, kept_processes, kept_objects),
-    }
-}
 
 // One command.
 pub fn step(b: Board, c: Command) -> Stepped
@@ -124,9 +95,9 @@ pub fn run_opening(
     ensures { λ r. ⌜ (r ≡ Sheet.runOpening nodes processes objects «process_home» «object_home» (now (s .entry)) (now (room .entry)) .ran)
         × (now (room .exit) ≡ Sheet.runOpening nodes processes objects «process_home» «object_home» (now (s .entry)) (now (room .entry)) .room) ⌝ }
 {
-    let opened = open(nodes, processes, objects, process_home, object_home);
+    let opened = opening::open(nodes, processes, objects, process_home, object_home);
     let answer = opened.answer;
-    if engine::answer::number(answer) != 0 {
+    if values::answer::number(answer) != 0 {
         return refused(answer, opened.board);
     }
     if s.len() % 2 == 1 {
@@ -159,11 +130,4 @@ pub fn drain(b: Board, budget: usize) -> Drained
         made: r.commands,
         board: next,
     }
-}
-
-// The number of an answer.
-pub fn number(a: Answer) -> u8
-    ensures { λ r. ⌜ r ≡ Answers.number a ⌝ }
-{
-    engine::answer::number(a)
 }

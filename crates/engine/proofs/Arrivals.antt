@@ -26,8 +26,8 @@ use Rattle.rules.specs.Board.{processAt, objectAt, kindAt, listAt, ringAt, putP
 use Rattle.rules.specs.Commands.{recording, delivered}
 use Rattle.rules.proofs.Tables.{true-not-false}
 use Rattle.rules.proofs.Lists.{addAll-grown, started-next, along-some}
-use Rattle.books.specs.declared.message.Onward.{Onward}
-use Rattle.books.specs.Onwards.{asksNext, onward, closes, askedWaitsFor, grown}
+use Rattle.lists.specs.declared.Leg.{Leg}
+use Rattle.lists.specs.Onwards.{asksNext, onward, closes, askedWaitsFor, grown}
 use Rattle.engine.specs.Grants.{grantsLeft}
 use Rattle.engine.proofs.Granting.{grants-from}
 
@@ -128,7 +128,7 @@ module _ (b : Board) (n : ℕ) (y : Board) (e : y ≡ freed b n) where
   release-arrives p o k i old new ei eo en h = rw (ei, en, eo) (grants-from y o (struck (objectAt b o) p) h ∙ rw (k, e))
 
   module _ (l : Entries) (el : l ≡ listAt b n) where
-    pub list-at-home : kindAt b n ≡ ListToHome → (p : ℕ) (book : Process) (r : Onward) → p ≡ askedOf l → book ≡ processAt b p → r ≡ onward (l .next) (l .count) (book .wait)
+    pub list-at-home : kindAt b n ≡ ListToHome → (p : ℕ) (book : Process) (r : Leg) → p ≡ askedOf l → book ≡ processAt b p → r ≡ onward (l .next) (l .count) (book .wait)
         → send y (record { kind = r .kind; list = withNext l (r .next) }) ≡ delivered b n
     unfolding delivered
     list-at-home k p book r ep eb er =

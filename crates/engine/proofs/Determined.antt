@@ -1,4 +1,4 @@
--- The contracts of the engine determine what they hand back. Of the room a drain says nothing: its one byte is a local of the bench.
+-- The contract of the engine determines what it hands back. Of the room a drain says nothing: its one byte is a local of the bench.
 use mathlib.Core.Path.{_≡_, refl, sym, _∙_}
 use mathlib.Core.Bool.{Bool, true, false}
 use mathlib.Core.List.{List}
@@ -9,19 +9,13 @@ use prog.Routine.{Routine}
 use prog.Wp.{Heap}
 use ghost.Atoms.{Atoms}
 use contract.Monad.{Fun}
-use Prim.Native.Nat.{ℕ, _≤_}
+use Prim.Native.Nat.{ℕ}
 use Rattle.rules.specs.declared.Board.{Board}
 use Rattle.rules.specs.declared.Ran.{Ran}
-use Rattle.rules.specs.Answers as Answers
-use Rattle.rules.specs.Board as Boards
-use Rattle.rules.specs.Lists as Lists
 use Rattle.rules.specs.Determined.{Determined}
-use Rattle.rules.proofs.Determined.{by-fact, by-equation, by-equation-with}
+use Rattle.rules.proofs.Determined.{by-fact}
 use Rattle.engine.specs.Work.{Worked}
 use Rattle.engine.proofs.turns as turns
-use Rattle.engine.proofs.answer.number as number
-use Rattle.engine.proofs.message.kind_load as kind-load
-use Rattle.engine.proofs.message.no_entries as no-entries
 
 one-work : (lowest : Bool) (b : Board) (s : List ℕ) (most : ℕ) (room : List ℕ) (r other : Ran) (after left : List ℕ) → Worked lowest b s most room r after → Worked lowest b s most room other left → r ≡ other
 one-work true b s most room r other after left p q = p .drain refl ∙ sym (q .drain refl)
@@ -31,12 +25,3 @@ module _ {M : Type 1} (𝓤 : URA M) (H : Heap 𝓤) (A : Atoms 𝓤) (mem : Mem
   pub turns-determined : Determined turns.ended (turns.clauses 𝓤 H A mem run) (λ κs r e. r)
   turns-determined = by-fact (λ κs a r e. Worked (a .1 .1 .0) (a .0) (a .1 .0 .now) (a .1 .1 .1 .0) (a .1 .1 .1 .1 .0 .now) r (e .1 .1 .1 .1 .0 .now))
       (λ κs a r other e left p q. one-work (a .1 .1 .0) (a .0) (a .1 .0 .now) (a .1 .1 .1 .0) (a .1 .1 .1 .1 .0 .now) r other (e .1 .1 .1 .1 .0 .now) (left .1 .1 .1 .1 .0 .now) p q) (λ κs a g r e. refl)
-
-  pub number-determined : Determined number.ended (number.clauses 𝓤 H A mem run) (λ κs r e. r)
-  number-determined = by-equation (λ κs a. Answers.number (a .0)) (λ κs a g r e. refl)
-
-  pub kind-load-determined : Determined kind-load.ended (kind-load.clauses 𝓤 H A mem run) (λ κs r e. r)
-  kind-load-determined = by-equation-with (λ κs a. Boards.kindLoad (a .0)) (λ κs a r e. r ≤ 2) (λ κs a g r e. refl)
-
-  pub no-entries-determined : Determined no-entries.ended (no-entries.clauses 𝓤 H A mem run) (λ κs r e. r)
-  no-entries-determined = by-equation (λ κs a. Lists.noEntries) (λ κs a g r e. refl)

@@ -4,11 +4,11 @@ ghost use Rattle.rules.specs.Book as Book;
 ghost use Rattle.rules.specs.declared.Kind.the-variants as Kinds;
 ghost use Rattle.rules.specs.Ranges.{LineRanged};
 ghost use Rattle.engine.specs.Grants.{frontGoes, grantsLeft, LineAt};
-use books::bits::wide;
 use rules::Board;
 use rules::Flight;
 use rules::Kind;
 use rules::Object;
+use values::bits::wide;
 
 // There is a front, and it conflicts with no holder.
 pub fn front_goes(o: Object) -> bool
@@ -18,14 +18,14 @@ pub fn front_goes(o: Object) -> bool
     if o.line_count == 0 {
         return false;
     }
-    books::object::front_clear(o)
+    objects::front_clear(o)
 }
 
 // The grant that is sent to the front of the line of object `o`.
 pub fn front_grant(book: Object, o: u8) -> Kind
     ensures { λ r. ⌜ r ≡ Kinds.Grant (Book.whoAt book 0) o (Book.modeAt book 0) ⌝ }
 {
-    Kind::Grant(book.line[0], o, books::object::mode_at(book, 0))
+    Kind::Grant(book.line[0], o, objects::mode_at(book, 0))
 }
 
 // The grants after the first, each under the lowest free number. It is handed the whole board, since it sends, and reads and writes the
@@ -36,21 +36,21 @@ pub fn grant_rest(start: Board, o: u8) -> Board
 {
     let mut b = start;
     let oi = wide(o);
-    let none = crate::message::no_entries();
+    let none = values::message::no_entries();
     let mut book = b.objects[oi];
     while front_goes(book) {
         let flight = Flight {
             kind: front_grant(book, o),
         };
-        book = books::object::front_granted(book);
+        book = objects::front_granted(book);
         b.objects[oi] = book;
-        let to = books::bits::lowest_free(b.occupied);
+        let to = values::bits::lowest_free(b.occupied);
         if 64 <= to {
             continue;
         }
         b.flights[to] = flight;
         b.lists[to] = none;
-        b.occupied = books::bits::with(b.occupied, to as u8);
+        b.occupied = values::bits::with(b.occupied, to as u8);
     }
     b
 }

@@ -2,16 +2,14 @@
 // of a message sees the one book that it acts on. This is the inner room of the bench, which asks for the shape first.
 ghost use Rattle.engine.specs.Ready.{Ready};
 ghost use Rattle.engine.specs.Work.{Reach, Worked};
-use books::bits::wide;
 use rules::Answer;
 use rules::Board;
 use rules::Flight;
 use rules::Kind;
 use rules::Ran;
+use values::bits::wide;
 
-pub mod answer;
 mod grants;
-pub mod message;
 mod next;
 mod packed;
 
@@ -23,8 +21,8 @@ pub fn turns(start: Board, s: &[u8], lowest: bool, most: usize, room: &mut [u8])
 {
     let mut b = start;
     let free = Flight { kind: Kind::Free };
-    let none = crate::message::no_entries();
-    let mut weight = shape::load(b);
+    let none = values::message::no_entries();
+    let mut weight = counts::load(b);
     let mut i: usize = 0;
     while i < most {
         if crate::next::is_over(lowest, b.occupied) {
@@ -62,18 +60,18 @@ pub fn turns(start: Board, s: &[u8], lowest: bool, most: usize, room: &mut [u8])
                 i += 1;
                 let process = crate::packed::book_after(kind, book, o);
                 b.processes[pi] = process;
-                let to = books::bits::lowest_free(b.occupied);
+                let to = values::bits::lowest_free(b.occupied);
                 let out = crate::packed::kind_sent(kind, p, o);
-                weight += crate::message::kind_load(out);
+                weight += values::message::kind_load(out);
                 let flight = Flight { kind: out };
                 b.flights[to] = flight;
                 b.lists[to] = none;
-                b.occupied = books::bits::with(b.occupied, to as u8);
+                b.occupied = values::bits::with(b.occupied, to as u8);
                 continue;
             }
             _ => {
                 let num = hi % 64;
-                if !books::bits::has(b.occupied, num) {
+                if !values::bits::has(b.occupied, num) {
                     room[at_room] = 11;
                     i += 1;
                     continue;
@@ -84,11 +82,11 @@ pub fn turns(start: Board, s: &[u8], lowest: bool, most: usize, room: &mut [u8])
                 let arrived = b.flights[at];
                 let list = b.lists[at];
                 let sort = arrived.kind;
-                weight -= crate::message::kind_load(sort);
+                weight -= values::message::kind_load(sort);
                 b.flights[at] = free;
                 b.lists[at] = none;
-                b.occupied = books::bits::without(b.occupied, num);
-                let to = books::bits::lowest_free(b.occupied);
+                b.occupied = values::bits::without(b.occupied, num);
+                let to = values::bits::lowest_free(b.occupied);
                 match sort {
                     Kind::Free => {
                         continue;
@@ -96,8 +94,8 @@ pub fn turns(start: Board, s: &[u8], lowest: bool, most: usize, room: &mut [u8])
                     Kind::Request(q, x, mode) => {
                         let xi = wide(x);
                         let old = b.objects[xi];
-                        if books::object::is_welcome(old, q, mode) {
-                            let held = books::object::hold(old, q, mode);
+                        if objects::is_welcome(old, q, mode) {
+                            let held = objects::hold(old, q, mode);
                             b.objects[xi] = held;
                             weight += 1;
                             let flight = Flight {
@@ -105,15 +103,15 @@ pub fn turns(start: Board, s: &[u8], lowest: bool, most: usize, room: &mut [u8])
                             };
                             b.flights[to] = flight;
                             b.lists[to] = none;
-                            b.occupied = books::bits::with(b.occupied, to as u8);
+                            b.occupied = values::bits::with(b.occupied, to as u8);
                             continue;
                         }
-                        let joined = books::object::join(old, q, mode);
+                        let joined = objects::join(old, q, mode);
                         b.objects[xi] = joined;
                         weight = weight + wide(joined.line_count) - wide(old.line_count);
-                        let entries = books::list::started(old, q, mode, old.line_count);
-                        let out = books::message::asks_next(entries.next, entries.count);
-                        let more = crate::message::kind_load(out);
+                        let entries = lists::started(old, q, mode, old.line_count);
+                        let out = lists::asks_next(entries.next, entries.count);
+                        let more = values::message::kind_load(out);
                         if more == 0 {
                             continue;
                         }
@@ -121,44 +119,44 @@ pub fn turns(start: Board, s: &[u8], lowest: bool, most: usize, room: &mut [u8])
                         let flight = Flight { kind: out };
                         b.flights[to] = flight;
                         b.lists[to] = entries;
-                        b.occupied = books::bits::with(b.occupied, to as u8);
+                        b.occupied = values::bits::with(b.occupied, to as u8);
                         continue;
                     }
                     Kind::Grant(q, x, mode) => {
                         let qi = wide(q);
-                        let process = books::home::granted(b.processes[qi], x, mode);
+                        let process = homes::granted(b.processes[qi], x, mode);
                         b.processes[qi] = process;
                         continue;
                     }
                     Kind::Release(q, x) => {
                         let xi = wide(x);
-                        let struck = books::object::strike(b.objects[xi], q);
+                        let struck = objects::strike(b.objects[xi], q);
                         if !crate::grants::front_goes(struck) {
                             b.objects[xi] = struck;
                             continue;
                         }
-                        let book = books::object::front_granted(struck);
+                        let book = objects::front_granted(struck);
                         b.objects[xi] = book;
                         let flight = Flight {
                             kind: crate::grants::front_grant(struck, x),
                         };
                         b.flights[to] = flight;
                         b.lists[to] = none;
-                        b.occupied = books::bits::with(b.occupied, to as u8);
+                        b.occupied = values::bits::with(b.occupied, to as u8);
                         if !crate::grants::front_goes(book) {
                             continue;
                         }
                         b = crate::grants::grant_rest(b, x);
-                        weight = shape::load(b);
+                        weight = counts::load(b);
                         continue;
                     }
                     Kind::ListToHome => {
                         let qi = wide(crate::packed::asked_of(list));
                         let process = b.processes[qi];
                         let wait = process.wait;
-                        let onward = books::home::onward(list.next, list.count, wait);
+                        let onward = lists::onward(list.next, list.count, wait);
                         let out = onward.kind;
-                        let more = crate::message::kind_load(out);
+                        let more = values::message::kind_load(out);
                         if more == 0 {
                             continue;
                         }
@@ -168,22 +166,22 @@ pub fn turns(start: Board, s: &[u8], lowest: bool, most: usize, room: &mut [u8])
                         let flight = Flight { kind: out };
                         b.flights[to] = flight;
                         b.lists[to] = entries;
-                        b.occupied = books::bits::with(b.occupied, to as u8);
+                        b.occupied = values::bits::with(b.occupied, to as u8);
                         continue;
                     }
                     Kind::ListToObject(x) => {
                         let book = b.objects[wide(x)];
-                        let place = books::list::place_in(book, crate::packed::asked_of(list));
-                        if books::list::closes(list, book, place) {
+                        let place = lists::place_in(book, crate::packed::asked_of(list));
+                        if lists::closes(list, book, place) {
                             let si = wide(crate::packed::starter_of(list));
-                            let ring = books::list::along_leads(list, wide(list.next));
-                            let kept = books::list::keeping(b.rings[si], ring);
+                            let ring = lists::ring::along_leads(list, wide(list.next));
+                            let kept = lists::ring::keeping(b.rings[si], ring);
                             b.rings[si] = kept;
                             continue;
                         }
-                        let entries = books::list::grown(list, book, place);
-                        let out = books::message::asks_next(entries.next, entries.count);
-                        let more = crate::message::kind_load(out);
+                        let entries = lists::grown(list, book, place);
+                        let out = lists::asks_next(entries.next, entries.count);
+                        let more = values::message::kind_load(out);
                         if more == 0 {
                             continue;
                         }
@@ -191,7 +189,7 @@ pub fn turns(start: Board, s: &[u8], lowest: bool, most: usize, room: &mut [u8])
                         let flight = Flight { kind: out };
                         b.flights[to] = flight;
                         b.lists[to] = entries;
-                        b.occupied = books::bits::with(b.occupied, to as u8);
+                        b.occupied = values::bits::with(b.occupied, to as u8);
                         continue;
                     }
                 }

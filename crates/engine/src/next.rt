@@ -12,7 +12,7 @@ pub fn is_over(lowest: bool, occupied: u64) -> bool
     ensures { λ r. ⌜ r ≡ (lowest && not (ltb (lowestTaken occupied) 64)) ⌝ }
 {
     if lowest {
-        return 64 <= books::bits::lowest(occupied);
+        return 64 <= values::bits::lowest(occupied);
     }
     false
 }
@@ -23,7 +23,7 @@ pub fn first_byte(s: &[u8], i: usize, lowest: bool, occupied: u64) -> u8
     ensures { λ r. ⌜ (r ≡ pick lowest (192 + lowestTaken occupied % 64) (getD (now (s .entry)) (2 * i) 0)) × (r < 256) ⌝ }
 {
     if lowest {
-        return 192 + (books::bits::lowest(occupied) % 64) as u8;
+        return 192 + (values::bits::lowest(occupied) % 64) as u8;
     }
     s[2 * i]
 }

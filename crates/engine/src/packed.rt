@@ -31,8 +31,8 @@ pub fn home_answer(kind: u8, p: u8, o: u8, processes: u8, objects: u8, book: Pro
     ensures { λ r. ⌜ r ≡ homeAnswer kind p o processes objects book ⌝ }
 {
     match kind {
-        2 => crate::answer::number(books::home::release_answer(p, o, processes, objects, book)),
-        _ => crate::answer::number(books::home::request_answer(p, o, processes, objects, book)),
+        2 => values::answer::number(homes::release_answer(p, o, processes, objects, book)),
+        _ => values::answer::number(homes::request_answer(p, o, processes, objects, book)),
     }
 }
 
@@ -52,8 +52,8 @@ pub fn book_after(kind: u8, book: Process, o: u8) -> Process
     ensures { λ r. ⌜ r ≡ bookAfter kind book o ⌝ }
 {
     match kind {
-        2 => books::home::dropping(book, o),
-        _ => books::home::asking(book, o, mode_of(kind)),
+        2 => homes::dropping(book, o),
+        _ => homes::asking(book, o, mode_of(kind)),
     }
 }
 
@@ -72,7 +72,7 @@ pub fn asked_of(l: Entries) -> u8
     requires { ⌜ ListRanged l ⌝ }
     ensures { λ r. ⌜ (r ≡ Lists.askedOf l) × (r < 16) ⌝ }
 {
-    let next = books::bits::wide(l.next);
+    let next = values::bits::wide(l.next);
     let who = l.who;
     who[next]
 }

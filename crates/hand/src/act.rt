@@ -34,7 +34,7 @@ fn keep(desk: Desk) -> Acted {
 }
 
 fn is_done(a: Answer) -> bool {
-    bench::number(a) == 0
+    values::answer::number(a) == 0
 }
 
 // Before the first opening the board is all zeros.
@@ -49,7 +49,7 @@ fn closed(b: Board) -> bool {
 fn open(desk: Desk, plan: Plan, nodes: u8, processes: u8, objects: u8) -> Acted {
     let hp = plan.process_home;
     let ho = plan.object_home;
-    let s = bench::open(nodes, processes, objects, hp, ho);
+    let s = opening::open(nodes, processes, objects, hp, ho);
     let a = s.answer;
     crate::say::answer(a);
     text(b"\n");
@@ -104,7 +104,7 @@ fn tell_end(before: Board, after: Board, freed: usize) {
         return;
     }
     if u64::count_ones(after.occupied) < u64::count_ones(before.occupied) {
-        if shape::tally(after) == shape::tally(before) {
+        if counts::tally(after) == counts::tally(before) {
             text(b"  the list ends without a new ring\n");
         }
     }

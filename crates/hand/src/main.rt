@@ -18,7 +18,7 @@ use undo::Kept;
 
 // No board is open yet: all zeros.
 fn closed() -> Desk {
-    let s = bench::open(0, 0, 0, [0; 16], [0; 16]);
+    let s = opening::open(0, 0, 0, [0; 16], [0; 16]);
     desk::cleared(s.board, typed::read(b""))
 }
 

@@ -59,9 +59,9 @@ fn in_turn(nodes: u8) -> [u8; 16] {
 
 // A count is outside its limit, as the board says: node 0, the home of all here, is a node of every board.
 fn count_outside(row: [u16; 35]) -> bool {
-    let s = bench::open(cut(row[0]), cut(row[1]), cut(row[2]), [0; 16], [0; 16]);
+    let s = opening::open(cut(row[0]), cut(row[1]), cut(row[2]), [0; 16], [0; 16]);
     let a = s.answer;
-    bench::number(a) != 0
+    values::answer::number(a) != 0
 }
 
 fn opening(row: [u16; 35], process_home: [u8; 16], object_home: [u8; 16]) -> Plan {

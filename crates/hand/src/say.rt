@@ -37,7 +37,7 @@ fn row(table: &[u8], n: u8) {
 
 // The number of an answer and the words that the paper's table has for it, in the table's order; the line goes on.
 pub fn answer(a: Answer) {
-    let n = bench::number(a);
+    let n = values::answer::number(a);
     crate::put::small(n);
     row(
         b" done

@@ -196,7 +196,7 @@ pub fn ring(before: &[u8], r: Ring) {
 // How many places for a ring are filled, and the ring in each.
 pub fn rings(b: Board) {
     text(b"  rings recorded: ");
-    crate::put::number(shape::tally(b));
+    crate::put::number(counts::tally(b));
     text(b"\n");
     let mut i: usize = 0;
     while i < 16 {
@@ -212,6 +212,6 @@ pub fn board(desk: Desk) {
     messages(desk);
     rings(b);
     text(b"  load ");
-    crate::put::number(shape::load(b));
+    crate::put::number(counts::load(b));
     text(b" of at most 64\n");
 }

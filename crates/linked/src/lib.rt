@@ -10,5 +10,5 @@ pub extern "C" fn sparkcushion_run(s: &[u8], room: &mut [u8]) -> u8
 {
     let ran = sheet::run(s, room);
     let answer = ran.answer;
-    bench::number(answer)
+    values::answer::number(answer)
 }

@@ -3,12 +3,12 @@ ghost use Prim.Native.Nat.{_+_, _<_, _≤_};
 use crate::text::number;
 use crate::text::put;
 use crate::text::word;
-use books::bits::has;
-use books::bits::wide;
 use rules::Board;
 use rules::Object;
 use rules::Ran;
 use rules::Ring;
+use values::bits::has;
+use values::bits::wide;
 
 // A space, a process and the letter of its mode.
 fn entry(out: &mut [u8; 65536], at: usize, p: u8, exclusive: bool) -> usize
@@ -164,7 +164,7 @@ fn last_line(out: &mut [u8; 65536], at: usize, b: Board) -> usize
     let messages = word(out, at, b"messages ");
     let counted = number(out, messages, in_flight(b.occupied));
     let rings = word(out, counted, b" rings ");
-    let tallied = number(out, rings, shape::tally(b));
+    let tallied = number(out, rings, counts::tally(b));
     put(out, tallied, b'\n')
 }
 
@@ -192,7 +192,7 @@ pub fn report(out: &mut [u8; 65536], ran: Ran, room: &[u8; 4096]) -> usize
     ensures { λ r. ⌜ r ≤ 65536 ⌝ }
 {
     let answer = ran.answer;
-    let code = wide(bench::number(answer));
+    let code = wide(values::answer::number(answer));
     if code != 0 {
         let named = word(out, 0, b"sheet ");
         let numbered = number(out, named, code);

@@ -1,7 +1,7 @@
 -- Tests joined: every place of a row at once, every record of a table one after another. Assumes nothing.
 use mathlib.Core.Path.{_≡_, refl, sym, ap, _∙_}
 use mathlib.Core.Bool.{Bool, true, false, not, _&&_}
-use mathlib.Core.List.{List, [], _∷_, map}
+use mathlib.Core.List.{List}
 use Prim.Native.Nat.{ℕ, zero, suc, _+_, _*_, _/_, _^_, _≤_, _<_}
 use native.Mathlib.Omega.{arith}
 use native.Mathlib.Numerals.{add-one}
@@ -9,16 +9,17 @@ use native.Mathlib.Nat.{div-lt-iff-lt-mul, one-mul}
 use lib.Bits.{bitAnd, bitOr, or-zero-l, or-add-and, and-le-l, and-le-r}
 use lib.Pow.{pow-pos, pow-mono}
 use lib.Dec.{eqb, ltb, leb·suc-suc, leb·suc-zero, eqb·suc-zero}
-use lib.ListN.{length, length-map, getD}
+use lib.ListN.{length, getD}
 use borrow.Author.Tests.{eqb-true, eq-eqb, ne-eqb, lt-ltb, ltb-true, not-true, not-false}
 use Rattle.rules.specs.declared.Entries.{Entries}
 use Rattle.rules.specs.declared.Flight.{Flight}
 use Rattle.rules.specs.declared.Board.{Board}
-use Rattle.rules.specs.Tables.{pick, either, all, sum}
+use Rattle.rules.specs.Tables.{pick, either, all}
 use Rattle.rules.specs.Bits.{taken}
 use Rattle.rules.specs.Shape.{upTo, rowFits, same, kindFits, messageFits}
 use Rattle.rules.specs.Lists.{noEntries}
 use Rattle.rules.specs.Board.{noFlight, isMessage}
+use Rattle.counts.proofs.Sums.{read-at}
 use Rattle.shape.specs.Stand.{RowFits}
 use Rattle.rules.proofs.Bits.{taken-and, taken-zero, empty-from}
 use Rattle.rules.proofs.Tables.{same-test, both, all-at, all-from, all-fail}
@@ -113,28 +114,10 @@ row-below row n c e h l = record { count = h; below = below }
     below : (k : ℕ) → k < n → getD row k 0 < 16
     below k m = let t = rw (lt-ltb k n m) at (all-at 16 _ e k (omega arith)) in omega (arith, ltb-true (getD row k 0) c t)
 
--- one more record counted
-pub sum-more : (total n x : ℕ) (f : ℕ → ℕ) → total ≡ sum n f → x ≡ f n → total + x ≡ sum (n + 1) f
-unfolding sum
-sum-more total n x f e h = rw (add-one, e, h)
-
-pub sum-none : (f : ℕ → ℕ) → 0 ≡ sum 0 f
-unfolding sum
-sum-none f = refl
-
--- inside a list the default does not matter
-pub read-at : {A : Type 0} (l : List A) (i : ℕ) (d e : A) → i < length l → getD l i d ≡ getD l i e
-read-at [] i d e h = absurd (omega arith)
-read-at (x ∷ l) zero d e h = refl
-read-at (x ∷ l) (suc i) d e h = read-at l i d e (omega arith)
-
 -- a record tested up to a count, as it is read
 pub read-fits : {A : Type 0} (f : A → ℕ → Bool) (l : List A) (k : ℕ) (d e : A) (r : Bool) (m end c n : ℕ) → k < length l
     → r ≡ f (getD l k d) m → m ≡ upTo k end n → end ≡ c → r ≡ f (getD l k e) (upTo k c n)
 read-fits f l k d e r m end c n h t u w = t ∙ ap (λ x. f x m) (read-at l k d e h) ∙ ap (f (getD l k e)) (u ∙ ap (λ (j : ℕ). upTo k j n) w)
-
-pub length-mapped : (X Y : Type 0) (f : X → Y) (l : List X) (n : ℕ) → length (map f l) ≡ n → length l ≡ n
-length-mapped X Y f l n e = sym (length-map l f) ∙ e
 
 -- a message as it is read
 pub read-message : (b : Board) (n : ℕ) (d : Flight) (e : Entries) → n < length (b .flights) → n < length (b .lists)

@@ -3,14 +3,15 @@ ghost use mathlib.Core.Path.{_≡_};
 ghost use Prim.Native.Nat.{_≤_};
 ghost use Rattle.rules.specs.Tables.{all};
 ghost use Rattle.rules.specs.Board.{processAt, objectAt};
-ghost use Rattle.rules.specs.Shape.{setFits, holdsFit, countFits, countsFit, upTo, waitFits, processFits, objectFits};
+ghost use Rattle.rules.specs.Shape.{setFits, holdsFit, countsFit, upTo, waitFits, processFits, objectFits};
 ghost use Rattle.shape.specs.Stand.{Counted};
 use crate::row::row_fits;
-use crate::row::wide;
 use rules::Board;
 use rules::Object;
 use rules::Process;
 use rules::Wait;
+use values::bits::wide;
+use values::count::count_fits;
 
 // Every number of the set is below c.
 fn set_fits(set: u64, c: u8) -> bool
@@ -32,15 +33,6 @@ fn holds_fit(shared: u64, exclusive: u64, c: u8) -> bool
         return false;
     }
     shared & exclusive == 0
-}
-
-fn count_fits(n: u8, top: u8) -> bool
-    ensures { λ r. ⌜ r ≡ countFits n top ⌝ }
-{
-    if n == 0 {
-        return false;
-    }
-    n <= top
 }
 
 // "counts, homes .. are in range"

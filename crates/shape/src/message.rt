@@ -9,11 +9,11 @@ ghost use Rattle.rules.specs.Shape.{leadFits, listFits, noList, kindFits, same,
 ghost use Rattle.shape.specs.Stand.{Counted};
 use crate::row::over;
 use crate::row::row_fits;
-use crate::row::wide;
 use crate::stand::different;
 use rules::Board;
 use rules::Entries;
 use rules::Kind;
+use values::bits::wide;
 
 // The limit of the lead at place k of n: a later entry is led by an earlier one, and the rest are zero, which alone is below 1.
 fn lead_limit(k: u8, n: u8) -> u8

@@ -6,10 +6,10 @@ ghost use Rattle.rules.specs.Board.{ringAt};
 ghost use Rattle.rules.specs.Shape.{ringFits};
 ghost use Rattle.shape.specs.Stand.{Counted};
 use crate::row::row_fits;
-use crate::row::wide;
 use crate::stand::different;
 use rules::Board;
 use rules::Ring;
+use values::bits::wide;
 
 // "each recorded ring has 2 to 16 different processes, its starter first"; an empty place holds zero
 fn ring_fits(ring: Ring, s: usize, pc: u8) -> bool

@@ -1,16 +1,10 @@
 // Rows of sixteen numbers: the first so many lie below a limit, and the rest are zero.
 // Every place is looked at and what is wrong is gathered, so that a row is tested as one.
 ghost use mathlib.Core.Path.{_≡_};
-ghost use Prim.Native.Nat.{_<_};
 ghost use lib.Dec.{ltb};
 ghost use Rattle.rules.specs.Tables.{pick};
 ghost use Rattle.rules.specs.Shape.{rowFits};
-
-pub fn wide(x: u8) -> usize
-    ensures { λ r. ⌜ (r ≡ x) × (r < 256) ⌝ }
-{
-    x as usize
-}
+use values::bits::wide;
 
 // 1 where a number is not below its limit.
 pub fn over(x: u8, limit: u8) -> u8

@@ -5,9 +5,9 @@ ghost use lib.Dec.{leb};
 ghost use Rattle.rules.specs.Tables.{all};
 ghost use Rattle.rules.specs.Shape as Rules;
 ghost use Rattle.shape.specs.Stand.{nobody, noted, notedRow, notedKind, notedRequests, notedLines, AskerFits, RowFits, Placed};
-use crate::row::wide;
 use rules::Board;
 use rules::Kind;
+use values::bits::wide;
 
 // Those who stand, as a set, and whether one of them stands twice.
 pub struct Standing {

@@ -10,7 +10,6 @@ use lib.ListN.{length}
 use borrow.Author.Tests.{lt-ltb, le-leb}
 use Rattle.rules.specs.declared.Answer.{Answer}
 use Rattle.rules.specs.declared.Answer.the-variants.{Done, HomeOutside, SheetCut, WrongForm, SpareBit, OddByte, TooManyCommands}
-use Rattle.rules.specs.declared.Stepped.{Stepped}
 use Rattle.rules.specs.declared.Ran.{Ran}
 use Rattle.rules.specs.Answers.{number, done, firstOf}
 use Rattle.rules.specs.Commands.{zeroBoard, outside, homeOutside, opening}
@@ -70,11 +69,6 @@ module _ (s : List ℕ) where
   pub refuses : (room : List ℕ) → done (readerAnswer s) ≡ false → refusedRun (readerAnswer s) zeroBoard room ≡ runSheet s room
   unfolding runSheet sheetAnswer firstOf
   refuses room e = rw (e, e)
-
--- an opening with no node is refused, and hands back the board of zeros
-pub run-nothing : {o : Stepped} (hp ho : List ℕ) (a : Answer) → o ≡ opening 0 0 0 hp ho → _≡_ {A = Ran} (record { answer = a; commands = 0; board = o .board }) (refusedRun a zeroBoard [] .ran)
-unfolding opening firstOf
-run-nothing hp ho a e = ap (λ (x : Stepped). refusedRun a (x .board) [] .ran) e
 
 -- ---- what the program has: the head was read, its tests gave the answer, the answer's number is n
 abbrev Runs : List ℕ → List ℕ → Ran → List ℕ → Type 0

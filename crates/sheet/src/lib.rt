@@ -27,7 +27,7 @@ pub fn commands(s: &[u8]) -> &[u8]
     let h = reader::read_head(s);
     let start = h.start;
     let a = head::tested(s, h);
-    if bench::number(a) == 0 {
+    if values::answer::number(a) == 0 {
         reader::rest_from(s, 8 * start)
     } else {
         let end = s.len();
@@ -39,13 +39,10 @@ pub fn commands(s: &[u8]) -> &[u8]
 fn refused(a: Answer) -> Ran
     ensures { λ r. ⌜ r ≡ refusedRun a zeroBoard [] .ran ⌝ }
 {
-    let row = [0u8; 16];
-    let nothing = bench::open(0, 0, 0, row, row);
-    let board = nothing.board;
     Ran {
         answer: a,
         commands: 0,
-        board: board,
+        board: opening::zero_board(),
     }
 }
 
@@ -55,7 +52,7 @@ pub fn run(s: &[u8], room: &mut [u8]) -> Ran
 {
     let h = reader::read_head(s);
     let a = head::tested(s, h);
-    if bench::number(a) != 0 {
+    if values::answer::number(a) != 0 {
         return refused(a);
     }
     let start = h.start;

@@ -33,7 +33,7 @@ fn steps(opened: Board, part: &[u8], n: usize, lent: bool, room: &mut [u8; 4096]
     while i < n {
         let stepped = step(b, command_at(part, i), lent);
         let answer = stepped.answer;
-        room[i] = bench::number(answer);
+        room[i] = values::answer::number(answer);
         b = stepped.board;
         i += 1;
     }

@@ -1,14 +1,13 @@
--- `sheet::refused` meets its contract: an opening with no node hands back the board of zeros. Assumes nothing.
-use Rattle.sheet.proofs.Runs.{run-nothing}
+-- `sheet::refused` meets its contract. Assumes nothing.
 use borrow.Author.Needs.{needs}
 use Rattle.sheet.proofs.refused.Statement.{statement}
 use Rattle.sheet.proofs.refused.Tie as tie
 
-open-requires : tie.Need-open-requires
-open-requires c κs = search needs
+zero-board-requires : tie.Need-zero-board-requires
+zero-board-requires c κs = search needs
 
 returns : tie.Need-returns
-returns c = run-nothing _ _ (c .before .before .args .a) (c .before .«open» .ensures)
+returns c = rw (c .zero-board .ensures)
 
 pub refused-spec : {M : Type 1} → statement M
-refused-spec = tie.close (tie.spec open-requires returns)
+refused-spec = tie.close (tie.spec zero-board-requires returns)

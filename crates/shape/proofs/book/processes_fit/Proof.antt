@@ -6,7 +6,8 @@ use native.Mathlib.Omega.{arith}
 use mathlib.Core.Bool.{true}
 use lib.ListN.{length}
 use Rattle.rules.specs.Tables.{all}
-use Rattle.shape.proofs.Tests.{ends-table, goes-on, length-mapped, read-fits, up-to-le}
+use Rattle.counts.proofs.Sums.{length-mapped}
+use Rattle.shape.proofs.Tests.{ends-table, goes-on, read-fits, up-to-le}
 use Rattle.rules.specs.Board.{processAt}
 use Rattle.rules.specs.Shape.{processFits, upTo}
 use Rattle.shape.proofs.book.processes_fit.Statement.{statement}

@@ -6,7 +6,8 @@ use native.Mathlib.Omega.{arith}
 use mathlib.Core.Bool.{true}
 use lib.ListN.{length}
 use Rattle.rules.specs.Tables.{all}
-use Rattle.shape.proofs.Tests.{ends-table, goes-on, read-at, length-mapped}
+use Rattle.counts.proofs.Sums.{read-at, length-mapped}
+use Rattle.shape.proofs.Tests.{ends-table, goes-on}
 use Rattle.rules.specs.declared.Ring.{Ring}
 use Rattle.rules.specs.Board.{ringAt}
 use Rattle.rules.specs.Shape.{ringFits}

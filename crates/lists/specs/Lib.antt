@@ -1,0 +1,4 @@
+-- What the contracts say beside the rules.
+pub mod Sets
+pub mod Rings
+pub mod Onwards

@@ -1,0 +1,4 @@
+-- Laws between what the handlers compute and what the rules say.
+pub mod Holds
+pub mod Shift
+pub mod Determined

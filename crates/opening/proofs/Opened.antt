@@ -1,0 +1,20 @@
+-- An opening: refused with the board of zeros, or taken with empty books.
+use mathlib.Core.Path.{_≡_, _∙_}
+use mathlib.Core.Logic.{_≢_}
+use mathlib.Core.List.{List}
+use Prim.Native.Nat.{ℕ}
+use borrow.Author.Tests.{ne-eqb}
+use Rattle.rules.specs.declared.Board.{Board}
+use Rattle.rules.specs.declared.Answer.{Answer}
+use Rattle.rules.specs.declared.Stepped.{Stepped}
+use Rattle.rules.specs.Answers.{number, firstOf}
+use Rattle.rules.specs.Commands.{zeroBoard, emptyBoard, homesOf, openingTests, opening}
+
+module _ (n p o : ℕ) (hp ho : List ℕ) (a : Answer) (e : a ≡ firstOf (openingTests n p o hp ho)) (k : ℕ) (g : k ≡ number a) where
+  pub opening-refused : k ≢ 0 → (z : Board) → z ≡ zeroBoard → _≡_ {A = Stepped} (record { answer = a; board = z }) (opening n p o hp ho)
+  unfolding opening
+  opening-refused h z f = rw (f, ← e, ne-eqb (number a) 0 (λ q. h (g ∙ q)))
+
+  pub opening-taken : k ≡ 0 → (x y : List ℕ) → x ≡ homesOf p hp → y ≡ homesOf o ho → (z : Board) → z ≡ emptyBoard n p o x y → _≡_ {A = Stepped} (record { answer = a; board = z }) (opening n p o hp ho)
+  unfolding opening
+  opening-taken h x y ex ey z f = rw (f, ex, ey, ← e, ← g, h)

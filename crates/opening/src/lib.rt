@@ -1,0 +1,152 @@
+// An opening: counts and homes are tested, books and messages are empty.
+ghost use mathlib.Core.Path.{_≡_};
+ghost use Prim.Native.Nat.{_≤_};
+ghost use lib.Dec.{ltb};
+ghost use lib.ListN.{getD};
+ghost use Rattle.rules.specs.Tables.{all};
+ghost use Rattle.rules.specs.Answers.{firstOf};
+ghost use Rattle.rules.specs.Commands.{homesOf, emptyBoard, zeroBoard, openingTests, opening};
+use rules::Answer;
+use rules::Board;
+use rules::Flight;
+use rules::Kind;
+use rules::Object;
+use rules::Process;
+use rules::Ring;
+use rules::Stepped;
+use rules::Wait;
+use values::bits::wide;
+use values::count::count_fits;
+
+// Each of the first `count` homes is a node.
+fn homes_fit(homes: [u8; 16], count: u8, nodes: u8) -> bool
+    requires { ⌜ count ≤ 16 ⌝ }
+    ensures { λ r. ⌜ r ≡ all count (λ k. ltb (getD homes k 0) nodes) ⌝ }
+{
+    let n = wide(count);
+    let mut k: usize = 0;
+    while k < n {
+        if nodes <= homes[k] {
+            return false;
+        }
+        k += 1;
+    }
+    true
+}
+
+// The first `count` homes, and zero past them.
+fn homes_of(count: u8, homes: [u8; 16]) -> [u8; 16]
+    requires { ⌜ count ≤ 16 ⌝ }
+    ensures { λ r. ⌜ r ≡ homesOf count homes ⌝ }
+{
+    let n = wide(count);
+    let mut kept = [0u8; 16];
+    let mut k: usize = 0;
+    while k < n {
+        kept[k] = homes[k];
+        k += 1;
+    }
+    kept
+}
+
+fn opening_answer(
+    nodes: u8,
+    processes: u8,
+    objects: u8,
+    process_home: [u8; 16],
+    object_home: [u8; 16],
+) -> Answer
+    ensures { λ r. ⌜ r ≡ firstOf (openingTests nodes processes objects «process_home» «object_home») ⌝ }
+{
+    if !count_fits(nodes, 8) {
+        return Answer::CountOutside;
+    }
+    if !count_fits(processes, 16) {
+        return Answer::CountOutside;
+    }
+    if !count_fits(objects, 16) {
+        return Answer::CountOutside;
+    }
+    if !homes_fit(process_home, processes, nodes) {
+        return Answer::HomeOutside;
+    }
+    if !homes_fit(object_home, objects, nodes) {
+        return Answer::HomeOutside;
+    }
+    Answer::Done
+}
+
+fn empty_board(
+    nodes: u8,
+    processes: u8,
+    objects: u8,
+    process_home: [u8; 16],
+    object_home: [u8; 16],
+) -> Board
+    ensures { λ r. ⌜ r ≡ emptyBoard nodes processes objects «process_home» «object_home» ⌝ }
+{
+    let process = Process {
+        shared: 0,
+        exclusive: 0,
+        wait: Wait::NotWaiting,
+        released: false,
+    };
+    let object = Object {
+        shared: 0,
+        exclusive: 0,
+        line: [0; 16],
+        line_exclusive: 0,
+        line_count: 0,
+    };
+    let none = values::message::no_entries();
+    let ring = Ring {
+        processes: [0; 16],
+        count: 0,
+    };
+    let flight = Flight { kind: Kind::Free };
+    Board {
+        nodes: nodes,
+        process_count: processes,
+        object_count: objects,
+        process_home: process_home,
+        object_home: object_home,
+        processes: [process; 16],
+        objects: [object; 16],
+        occupied: 0,
+        flights: [flight; 64],
+        lists: [none; 64],
+        rings: [ring; 16],
+    }
+}
+
+// The board of zeros, which a refused opening hands back.
+pub fn zero_board() -> Board
+    ensures { λ r. ⌜ r ≡ zeroBoard ⌝ }
+{
+    empty_board(0, 0, 0, [0; 16], [0; 16])
+}
+
+// Counts of nodes, processes and objects, and the homes of the processes and of the objects.
+pub fn open(
+    nodes: u8,
+    processes: u8,
+    objects: u8,
+    process_home: [u8; 16],
+    object_home: [u8; 16],
+) -> Stepped
+    ensures { λ r. ⌜ r ≡ opening nodes processes objects «process_home» «object_home» ⌝ }
+{
+    let answer = opening_answer(nodes, processes, objects, process_home, object_home);
+    if values::answer::number(answer) != 0 {
+        return Stepped {
+            answer: answer,
+            board: zero_board(),
+        };
+    }
+    let kept_processes = homes_of(processes, process_home);
+    let kept_objects = homes_of(objects, object_home);
+    Stepped {
+        answer: answer,
+        board: empty_board(nodes, processes, objects, kept_processes, kept_objects),
+    }
+}
