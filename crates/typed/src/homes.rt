@@ -1,7 +1,7 @@
 // The homes that an opening types, as the board takes numbers.
 ghost use mathlib.Core.Path.{_≡_};
-ghost use Prim.Native.Nat.{_<_};
 ghost use Rattle.typed.specs.Homes as Homes;
+use values::bits::wide;
 
 // A number as the board takes it: one above 255 is outside every limit, as 255 is.
 pub fn cut(n: u16) -> u8
@@ -11,12 +11,6 @@ pub fn cut(n: u16) -> u8
         return n as u8;
     }
     255
-}
-
-fn wide(x: u8) -> usize
-    ensures { λ r. ⌜ (r ≡ x) × (r < 256) ⌝ }
-{
-    x as usize
 }
 
 // The number at a place of a row; 0 past the row's end.
