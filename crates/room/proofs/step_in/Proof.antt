@@ -19,7 +19,7 @@ use contract.Monad.{Fun, fact}
 use contract.Running.{givenOf, tables, tablesOf}
 use types.Kit.{Given, ‵, raw, _⊛_, some, later, _$_, _∵_, !, qed, by, move, keep, drop, use0, use1, split, join, pick, rewrite, fsplit, fsplit3, fjoin, fjoin3, feqI, suffices, frame, await, done}
 use types.Run.{look, look-raw, init, store-raw, forget, stop, hop, fld, from, load, of-opd, and-then, no-more, assigns, land, returns, enter, alloc1, alloc0, params1, pass1, pass0, free1, free0}
-use types.Part.{whole, sub, look-in}
+use types.Part.{look-in}
 use types.SemTy.{Body}
 use sound.WpLaws.{FmC, fmOf, WpFn-mono}
 use denote.RattleType.{owns}
@@ -54,7 +54,7 @@ use Rattle.bench.proofs.step as by-value
 use Rattle.bench.proofs.step.Symbol as by-value-def
 use Rattle.bench.proofs.step.Symbol.{name as #bench·step}
 use Rattle.bench.proofs.step.Met as by-value-thm
-use Rattle.room.proofs.Values.{board-val, command-val, answer-val, IsBoard, IsCommand, IsStepped, stepped-spelled, answer-of, board-of}
+use Rattle.room.proofs.Values.{board-val, command-val, answer-val, IsBoard, IsCommand, IsStepped, stepped-spelled, answer-of, board-of, answer-at, board-at, answer-part, board-part}
 use Rattle.room.specs.OneResult.{ByValue}
 use Rattle.room.proofs.step_in.Key.{name as #room·step-in}
 use Rattle.room.proofs.step_in as step-in
@@ -124,8 +124,8 @@ module _ {M : Type 1} (𝓤 : URA M) (H : Heap 𝓤) (A : Atoms 𝓤) (W : Given
         peeks ! S.the-row (Is S.the-row) (shows 𝓤 H A S.the-row) r (v ∷ []) (λ is. drop ! $
         land ! (from ! (stop !)) (init ! 6 refl (LL.lawful S.the-type S′.the-laws 𝓤 H A W .typed r _ is .0)) $
         rewrite ! 6 (λ (u : Val). ‵ (fat fullShare S′.mir l₃ 0 u)) (ap only (LL.tells S.the-type S′.the-laws r _ is)) refl $
-        assigns ! (of-opd ! (load ! (from ! (fld ! refl (stop !))) (look-in ! 6 (sub ! 1 refl (whole !))))) (from ! (hop ! (look ! 10 refl) (stop !))) (store-raw ! 0 refl (LL.lawful B.the-type B′.the-laws 𝓤 H A W .typed (r .board) _ (board-of r (stepped-spelled r v is)) .0)) $
-        assigns ! (of-opd ! (load ! (from ! (fld ! refl (stop !))) (look-in ! 6 (sub ! 0 refl (whole !))))) (from ! (stop !)) (init ! 12 refl (EL.lawful N.the-type N′.the-laws 𝓤 H A W tt .typed (r .answer) _ (answer-of r (stepped-spelled r v is)) .0)) $
+        assigns ! (of-opd ! (load ! (from ! (fld ! board-at (stop !))) (look-in ! 6 (board-part ! l₃ (answer-val (r .answer)) (board-val (r .board)))))) (from ! (hop ! (look ! 10 refl) (stop !))) (store-raw ! 0 refl (LL.lawful B.the-type B′.the-laws 𝓤 H A W .typed (r .board) _ (board-of r (stepped-spelled r v is)) .0)) $
+        assigns ! (of-opd ! (load ! (from ! (fld ! answer-at (stop !))) (look-in ! 6 (answer-part ! l₃ (answer-val (r .answer)) (board-val (r .board)))))) (from ! (stop !)) (init ! 12 refl (EL.lawful N.the-type N′.the-laws 𝓤 H A W tt .typed (r .answer) _ (answer-of r (stepped-spelled r v is)) .0)) $
         owned ! B.the-row (Is B.the-row) (LL.makes B.the-type B′.the-plain 𝓤 H A) (r .board) _ (board-of r (stepped-spelled r v is)) $ move ! (1 ∷ 0 ∷ []) $ closes ! tt B.the-row (r .board) (board-val (r .board) ∷ []) b o $
         -- [obs; the borrow; the token; _4; …; _3; …; _2; …; _1; …; _0; …]
         returns ! (look ! 11 refl) $ forget ! 3 refl $ forget ! 5 refl $ forget ! 7 refl $ forget ! 9 refl $ forget ! 11 refl $
