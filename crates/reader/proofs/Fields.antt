@@ -1,37 +1,80 @@
--- A field read bit by bit, and the homes read field by field. Assumes nothing.
+-- A field read off the bytes that it lies in, and the homes read field by field. Assumes nothing.
 use mathlib.Core.Path.{_≡_, refl, sym, ap, _∙_}
 use mathlib.Core.List.{List}
 use mathlib.Core.Logic.{_≢_}
-use Prim.Native.Nat.{ℕ, _+_, _-_, _*_, _/_, _^_, _≤_, _<_}
-use native.Mathlib.Nat.{zero-div, lt-of-lt-of-le}
-use native.Mathlib.Numerals.{add-one}
+use Prim.Native.Nat.{ℕ, _+_, _-_, _*_, _/_, _%_, _^_, _≤_, _<_}
 use native.Mathlib.Omega.{arith}
 use native.Mathlib.Decide.{ℕ-discrete, decLt}
 use lib.Dec.{ltb}
-use lib.ListN.{length, getD, set, replicate, length-set, List·getD-eq-default}
+use lib.ListN.{length, getD, set, replicate, length-set}
 use lib.Seq.{ext-getD, getD-set-same, getD-set-other}
-use lib.Pow.{pow-mono}
+use lib.Pow.{pow-pos, high, low, shl-exact}
 use borrow.Author.Tests.{lt-ltb, le-ltb}
 use Rattle.rules.specs.Tables.{pick, rows}
-use Rattle.rules.specs.Sheet.{bitAt, field, homesFrom}
+use Rattle.rules.specs.Sheet.{field, homesFrom}
 use Rattle.rules.proofs.Tables.{rows-length, rows-at}
-use Rattle.rules.proofs.Sheet.{field-below}
+use Rattle.rules.proofs.Sheet.{field-below, field-split, field-in-byte}
 
--- past the end there are zeros
-pub bit-past : (s : List ℕ) (i : ℕ) → length s ≤ i / 8 → 0 ≡ bitAt s i
-bit-past s i h = rw (List·getD-eq-default s 0 h, zero-div)
+-- ---- fields
+-- a field that lies inside a wider one: what follows it is shifted out, and what stands before it is masked
+pub field-inside : (s : List ℕ) (at a n c : ℕ) → field s at (a + n + c) / 2 ^ c % 2 ^ n ≡ field s (at + a) n
+field-inside s at a n c = ap (λ (x : ℕ). x % 2 ^ n) shifted ∙ masked
+  where
+    shifted : field s at (a + n + c) / 2 ^ c ≡ field s at (a + n)
+    shifted = rw (field-split s at (a + n) c) (high (field s at (a + n)) c (field-below s (at + (a + n)) c))
 
--- a field of at most 16 bits
-pub field-16 : (s : List ℕ) (at n : ℕ) → n ≤ 16 → field s at n < 65536
-field-16 s at n h = lt-of-lt-of-le (field-below s at n) (pow-mono h)
+    masked : field s at (a + n) % 2 ^ n ≡ field s (at + a) n
+    masked = rw (field-split s at a n) (low (field s at a) n (field-below s (at + a) n))
 
-pub field-next : (s : List ℕ) (at i : ℕ) {v b : ℕ} → v ≡ field s at i → b ≡ bitAt s (at + i) → 2 * v + b ≡ field s at (i + 1)
-unfolding field
-field-next s at i e f = rw (e, f, add-one)
+-- a whole byte
+whole-byte : (s : List ℕ) (at i : ℕ) → at ≡ 8 * i → getD s i 0 < 256 → field s at 8 ≡ getD s i 0
+whole-byte s at i e h = field-in-byte s at 8 (omega arith) ∙ rw (place, down) (omega arith)
+  where
+    place : at / 8 ≡ i
+    place = omega arith
 
--- the loop over the bits has ended
-pub field-whole : (s : List ℕ) (at : ℕ) {i n v : ℕ} → v ≡ field s at i → i ≡ n → (v ≡ field s at n) × (v < 2 ^ n)
-field-whole s at {i} {n} {v} e z = let w : v ≡ field s at n = e ∙ ap (field s at) z in (w, rw w (field-below s at n))
+    down : 8 - at % 8 - 8 ≡ 0
+    down = omega arith
+
+-- three bytes
+module _ (s : List ℕ) (i : ℕ) (h : getD s i 0 < 256) (m : getD s (i + 1) 0 < 256) (l : getD s (i + 2) 0 < 256) where
+  three-bytes : field s (8 * i) 24 ≡ 65536 * getD s i 0 + 256 * getD s (i + 1) 0 + getD s (i + 2) 0
+  three-bytes =
+      let first : field s (8 * i) 8 ≡ getD s i 0 = whole-byte s (8 * i) i refl h in
+      let second : field s (8 * i + 8) 8 ≡ getD s (i + 1) 0 = whole-byte s (8 * i + 8) (i + 1) (omega arith) m in
+      let third : field s (8 * i + 8 + 8) 8 ≡ getD s (i + 2) 0 = whole-byte s (8 * i + 8 + 8) (i + 2) (omega arith) l in
+      omega (arith, field-split s (8 * i) 8 16, field-split s (8 * i + 8) 8 8)
+
+-- a mask of n bits
+mask-is : (n : ℕ) → n ≤ 16 → 1 * 2 ^ n % 2 ^ 64 ≡ 2 ^ n
+mask-is n few = shl-exact 1 n 64 (omega arith) (omega arith) ∙ omega arith
+
+pub mask-some : (n : ℕ) → n ≤ 16 → 0 < 1 * 2 ^ n % 2 ^ 64
+mask-some n few = rw (mask-is n few) (pow-pos n)
+
+-- at most 16 bits lie in the three bytes h, m and l from their first bit's byte on
+module _ (s : List ℕ) (at n : ℕ) {h m l : ℕ} (few : n ≤ 16) (h-fits : h < 256) (m-fits : m < 256) (l-fits : l < 256)
+    (h-is : h ≡ getD s (at / 8) 0) (m-is : m ≡ getD s (at / 8 + 1) 0) (l-is : l ≡ getD s (at / 8 + 2) 0) where
+  abbrev three : ℕ
+  three = 65536 * h + 256 * m + l
+
+  abbrev down : ℕ
+  down = 24 - at % 8 - n
+
+  three-is : three ≡ field s (8 * (at / 8)) (at % 8 + n + down)
+  three-is =
+      let whole : field s (8 * (at / 8)) 24 ≡ 65536 * getD s (at / 8) 0 + 256 * getD s (at / 8 + 1) 0 + getD s (at / 8 + 2) 0 =
+      three-bytes s (at / 8) (omega (arith, h-is, h-fits)) (omega (arith, m-is, m-fits)) (omega (arith, l-is, l-fits)) in
+      rw (h-is, m-is, l-is) (sym whole ∙ ap (field s (8 * (at / 8))) (omega arith))
+
+  shifted : three / 2 ^ down % 2 ^ n ≡ field s at n
+  shifted = rw three-is (field-inside s (8 * (at / 8)) (at % 8) n down ∙ ap (λ (k : ℕ). field s k n) (omega arith))
+
+  abbrev masked : ℕ
+  masked = three / 2 ^ down % (1 * 2 ^ n % 2 ^ 64)
+
+  pub field-of-bytes : (masked ≡ field s at n) × (masked < 2 ^ n)
+  field-of-bytes = rw (mask-is n few, shifted) (refl, field-below s at n)
 
 -- ---- homes
 -- one more place is below the limit, and no other changes its side

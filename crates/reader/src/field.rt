@@ -1,7 +1,7 @@
 // Fields of a sheet, most significant bit first. Past the sheet's end there are zeros.
 ghost use mathlib.Core.Path.{_≡_};
 ghost use Prim.Native.Nat.{_+_, _*_, _<_, _≤_, _^_};
-ghost use Rattle.rules.specs.Sheet.{bitAt};
+ghost use lib.ListN.{getD};
 ghost use Rattle.rules.specs.Sheet as Rules;
 ghost use Rattle.reader.specs.Place as Place;
 ghost use Rattle.reader.specs.Place.{fieldAt};
@@ -12,31 +12,27 @@ pub struct Number {
     pub next: usize,
 }
 
-fn bit(s: &[u8], at: usize) -> usize
-    ensures { λ r. ⌜ r ≡ bitAt (now (s .entry)) at ⌝ }
+// Byte i of a sheet.
+fn byte(s: &[u8], i: usize) -> u8
+    ensures { λ r. ⌜ r ≡ getD (now (s .entry)) i 0 ⌝ }
 {
-    let byte = at / 8;
-    if byte < s.len() {
-        let x = s[byte];
-        let down = 7 - at % 8;
-        ((x >> down) % 2) as usize
-    } else {
-        0
+    if i < s.len() {
+        return s[i];
     }
+    0
 }
 
-// The number that n bits from bit `at` on stand for.
+// The number that n bits from bit `at` on stand for: they lie in the three bytes from that bit's byte on.
 pub fn field(s: &[u8], at: usize, n: usize) -> usize
     requires { ⌜ (at + n < 2 ^ 64) × (n ≤ 16) ⌝ }
     ensures { λ r. ⌜ (r ≡ Rules.field (now (s .entry)) at n) × (r < 2 ^ n) ⌝ }
 {
-    let mut v: usize = 0;
-    let mut i: usize = 0;
-    while i < n {
-        v = 2 * v + bit(s, at + i);
-        i += 1;
-    }
-    v
+    let first = at / 8;
+    let high = byte(s, first) as usize;
+    let middle = byte(s, first + 1) as usize;
+    let low = byte(s, first + 2) as usize;
+    let three = 65536 * high + 256 * middle + low;
+    (three >> (24 - at % 8 - n)) % (1 << n)
 }
 
 // How much of n is read at a bit: all of it, or none where n is above 16 or the bit far past any sheet.

@@ -1,59 +1,86 @@
--- `reader::field::field` meets its contract. The invariant: the number so far is the field of the bits passed. Assumes nothing.
-use mathlib.Core.Path.{_≡_, refl}
-use Prim.Native.Nat.{_-_, _≤_}
+-- `reader::field::field` meets its contract: of the three bytes from its first bit's byte on, the bits below the field are shifted out
+-- and those above it are masked. Assumes nothing.
 use native.Mathlib.Omega.{arith}
-use Rattle.rules.specs.Sheet.{field}
-use Rattle.reader.proofs.Fields.{field-16, field-next, field-whole}
 use borrow.Author.Needs.{needs}
+use Rattle.reader.proofs.Fields.{mask-some, field-of-bytes}
 use Rattle.reader.proofs.field.field.Statement.{statement}
 use Rattle.reader.proofs.field.field.Tie as tie
 
-abbrev Inv-loop : tie.InvT-loop
-Inv-loop s at n v₀ i₀ v i = (v ≡ field s at i) × (i ≤ n)
+byte-requires : tie.Need-byte-requires
+byte-requires c κs = search needs
 
-abbrev μ-loop : tie.MeasureT-loop
-μ-loop s at n v₀ i₀ v i = n - i
+cast-high : tie.Need-cast-high
+cast-high c = search needs
 
-loop-holds : tie.Need-loop-holds Inv-loop μ-loop
-unfolding field
-loop-holds c = (refl, search needs)
+add-byte : tie.Need-add-byte
+add-byte c = search needs
 
-mul-v : tie.Need-mul-v Inv-loop μ-loop
-mul-v c = omega (arith, c .before .loop .inv .0, field-16 (c .before .before .before .args .s .now) (c .before .before .before .args .at) (c .before .loop .i) (omega arith))
+byte-requires-2 : tie.Need-byte-requires-2
+byte-requires-2 c κs = search needs
 
-add-bit : tie.Need-add-bit Inv-loop μ-loop
-add-bit c = search needs
+cast-middle : tie.Need-cast-middle
+cast-middle c = search needs
 
-bit-requires : tie.Need-bit-requires Inv-loop μ-loop
-bit-requires c κs = search needs
+add-byte-2 : tie.Need-add-byte-2
+add-byte-2 c = search needs
 
-add-v : tie.Need-add-v Inv-loop μ-loop
-add-v c = omega (arith, c .before .before .loop .inv .0, field-16 (c .before .before .before .before .args .s .now) (c .before .before .before .before .args .at) (c .before .before .loop .i) (omega arith), c .bit .ensures)
+byte-requires-3 : tie.Need-byte-requires-3
+byte-requires-3 c κs = search needs
 
-add-i : tie.Need-add-i Inv-loop μ-loop
-add-i c = search needs
+cast-low : tie.Need-cast-low
+cast-low c = search needs
 
-loop-less : tie.Need-loop-less Inv-loop μ-loop
-loop-less c = search needs
+mul-three : tie.Need-mul-three
+mul-three c = search needs
 
-loop-again : tie.Need-loop-again Inv-loop μ-loop
-loop-again c = (field-next (c .before .before .before .before .args .s .now) (c .before .before .before .before .args .at) (c .before .before .loop .i) (c .before .before .loop .inv .0) (c .bit .ensures), search needs)
+mul-three-2 : tie.Need-mul-three-2
+mul-three-2 c = search needs
 
-returns : tie.Need-returns Inv-loop μ-loop
-returns c = field-whole (c .before .before .before .args .s .now) (c .before .before .before .args .at) (c .before .loop .inv .0) (omega arith)
+add-three : tie.Need-add-three
+add-three c = search needs
+
+add-three-2 : tie.Need-add-three-2
+add-three-2 c = search needs
+
+sub-result : tie.Need-sub-result
+sub-result c = search needs
+
+sub-result-2 : tie.Need-sub-result-2
+sub-result-2 c = search needs
+
+shr-result : tie.Need-shr-result
+shr-result c = search needs
+
+shl-result : tie.Need-shl-result
+shl-result c = search needs
+
+rem-result : tie.Need-rem-result
+rem-result c = mask-some (c .before .before .before .before .args .n) (omega arith)
+
+returns : tie.Need-returns
+returns c =
+    field-of-bytes (c .before .before .before .before .args .s .now) (c .before .before .before .before .args .at) (c .before .before .before .before .args .n)
+    (omega arith) (omega arith) (omega arith) (omega arith) (c .before .before .byte .ensures) (c .before .byte2 .ensures) (c .byte3 .ensures)
 
 pub field-spec : {M : Type 1} → statement M
 field-spec =
     tie.close
     (tie.spec
-    Inv-loop
-    μ-loop
-    loop-holds
-    mul-v
-    add-bit
-    bit-requires
-    add-v
-    add-i
-    loop-less
-    loop-again
+    byte-requires
+    cast-high
+    add-byte
+    byte-requires-2
+    cast-middle
+    add-byte-2
+    byte-requires-3
+    cast-low
+    mul-three
+    mul-three-2
+    add-three
+    add-three-2
+    sub-result
+    sub-result-2
+    shr-result
+    shl-result
+    rem-result
     returns)
