@@ -4,5 +4,6 @@ pub mod Places
 pub mod Held
 pub mod Lent
 pub mod Rows
+pub mod Leaves
 pub mod Heads
 pub mod Determined

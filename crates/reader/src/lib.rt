@@ -67,15 +67,17 @@ pub fn rest<'a>(r: Reader<'a>) -> &'a [u8]
 }
 
 // The header, the homes of the processes and of the objects, and the spare bits to the byte's end, through one reading place.
+// The header is read as one field, and its five parts are taken out of it: form 4, nodes 3, processes 4, objects 4, spare 1.
 pub fn read_head(s: &[u8]) -> Head
     ensures { λ r. ⌜ r ≡ headOf (now (s .entry)) ⌝ }
 {
     let mut r = new(s);
-    let form = read(&mut r, 4);
-    let nodes = read(&mut r, 3) + 1;
-    let processes = read(&mut r, 4) + 1;
-    let objects = read(&mut r, 4) + 1;
-    let spare = read(&mut r, 1);
+    let header = read(&mut r, 16);
+    let form = header / 512 / 8;
+    let nodes = (header / 512) % 8 + 1;
+    let processes = (header / 32) % 16 + 1;
+    let objects = (header / 2) % 16 + 1;
+    let spare = header % 2;
     let process_home = homes(&mut r, processes);
     let object_home = homes(&mut r, objects);
     let left = whole::left(r.at);

@@ -2,7 +2,7 @@
 -- All that the proof knows of `new`, `read`, `homes` and `left` is that each meets its contract; that what they find makes the head is `Heads.antt`'s.
 -- Assumes nothing.
 use mathlib.Core.Path.{_≡_, refl, ap, subst}
-use Prim.Native.Nat.{ℕ, _+_, _*_, _/_, _<_, _^_}
+use Prim.Native.Nat.{ℕ, _+_, _*_, _/_, _%_, _<_, _^_}
 use mathlib.Core.List.{List, [], _∷_}
 use lib.Dec.{lit<, lit≤}
 use lib.ListN.{length}
@@ -20,7 +20,7 @@ use contract.Monad.{Fun, fact}
 use contract.Running.{givenOf, tables, tablesOf}
 use types.Kit.{Given, ‵, raw, _⊛_, ⋆, given, some, later, _$_, _∵_, !, qed, by, move, keep, drop, use1, use2, use3, split, join, learn, pick, rewrite, fsplit, fjoin, suffices, frame, await, done}
 use types.Part.{agg, whole, sub, look-in}
-use types.Run.{look, init, store, forget, stop, fld, from, load, lit, addr, bin, of-opd, and-then, no-more, assigns, land, returns, enter, alloc1, alloc0, params1, pass1, pass0, free1, free0}
+use types.Run.{look, init, store, stop, fld, from, load, lit, addr, bin, of-opd, and-then, no-more, assigns, land, returns, enter, alloc1, alloc0, params1, pass1, pass0}
 use sound.WpLaws.{FmC, fmOf, WpFn-mono}
 use denote.RattleType.{RattleType, owns}
 use denote.Laws.{Is, shows}
@@ -44,7 +44,7 @@ use Rattle.reader.specs.Place.{leftAt}
 use Rattle.reader.specs.Head.{headOf}
 use Rattle.reader.specs.declared.Reader.{Reader}
 use Rattle.reader.specs.declared.Head.{Head}
-use Rattle.reader.proofs.Heads.{found, head-is, nodes-few, count-few, left-few, few-fits, processes-near, homes-near, near-fits, past-fits, start-fits}
+use Rattle.reader.proofs.Heads.{nodesIn, processesIn, objectsIn, endIn, found, head-read, head-is, nodes-few, count-few, left-few, few-fits, div-fits, mod-fits, processes-near, homes-near, near-fits, past-fits, start-fits}
 use Rattle.reader.proofs.Rows as rows
 use Rattle.reader.proofs.Rows.{cells, spelled, inside}
 use Rattle.reader.proofs.Reader as T
@@ -52,6 +52,7 @@ use Rattle.reader.proofs.Reader.Laws as T′
 use Rattle.reader.proofs.Head as P
 use Rattle.reader.proofs.Head.Laws as P′
 use Rattle.reader.proofs.Held.{moved}
+use Rattle.reader.proofs.Leaves.{leaves}
 use Rattle.reader.proofs.Lent as lent
 use Rattle.reader.proofs.Lent.{Read, Homes}
 use Rattle.reader.proofs.new as new
@@ -91,6 +92,15 @@ module _ (f n p o x : ℕ) (hp ho : List ℕ) (y t : ℕ) where
       let is : Is P.the-row (found f n p o x hp ho y t) (LL.vals P.the-type P′.the-laws (found f n p o x hp ho y t)) = LL.owes P.the-type P′.the-laws (found f n p o x hp ho y t) ((refl, hf), ((refl, hn), ((refl, hp-fits), ((refl, ho-fits), ((refl, hx), (inside hp hps, (inside ho hos, ((refl, hy), ((refl, ht), tt))))))))) in
       subst (Is P.the-row (found f n p o x hp ho y t)) (P′.lowers .val-is (found f n p o x hp ho y t) _ is) is
 
+-- and so is the head that is read
+module _ (h : ℕ) (hp ho : List ℕ) (y j : ℕ) where
+  is-head : h < 2 ^ 64 → Is rows.Homes hp (cells hp ∷ []) → Is rows.Homes ho (cells ho ∷ []) → y < 2 ^ 64 → j ≡ leftAt (endIn h)
+      → Is P.the-row (head-read h hp ho y j) (P′.lowered (head-read h hp ho y j) ∷ [])
+  is-head fits hps hos hy ej =
+      held (h / 512 / 8) (nodesIn h) (processesIn h) (objectsIn h) (h % 2) hp ho y ((endIn h + j) / 8) (div-fits (h / 512) 8 (div-fits h 512 fits))
+      (few-fits (nodes-few h)) (few-fits (count-few (h / 32))) (few-fits (count-few (h / 2))) (mod-fits h 2 fits) hps hos hy
+      (start-fits (homes-near (count-few (h / 32)) (count-few (h / 2))) (left-few (endIn h) ej))
+
 module _ {M : Type 1} (𝓤 : URA M) (H : Heap 𝓤) (A : Atoms 𝓤) (W : Given 𝓤 H A) (mem : Memory → SProp 𝓤) (run : Routine → Fun 𝓤) (κ : Lft) (q : Share) (s : RefT (List ℕ)) where
   -- the machine value that s has, and its bytes
   abbrev v : Val
@@ -104,25 +114,13 @@ module _ {M : Type 1} (𝓤 : URA M) (H : Heap 𝓤) (A : Atoms 𝓤) (W : Given
   made = record { sheet = s; at = 0 }
 
   abbrev past1 : Reader
-  past1 = moved made 4
+  past1 = moved made 16
 
-  abbrev past2 : Reader
-  past2 = moved made 7
+  abbrev past2 : ℕ → Reader
+  past2 p = moved made (16 + 3 * p)
 
-  abbrev past3 : Reader
-  past3 = moved made 11
-
-  abbrev past4 : Reader
-  past4 = moved made 15
-
-  abbrev past5 : Reader
-  past5 = moved made 16
-
-  abbrev past6 : ℕ → Reader
-  past6 p = moved made (16 + 3 * p)
-
-  abbrev past7 : ℕ → ℕ → Reader
-  past7 p o = moved made (16 + 3 * p + 3 * o)
+  abbrev past3 : ℕ → ℕ → Reader
+  past3 p o = moved made (16 + 3 * p + 3 * o)
 
   abbrev α : NamedLft
   α = record { mir = named 1; lft = κ }
@@ -180,87 +178,72 @@ module _ {M : Type 1} (𝓤 : URA M) (H : Heap 𝓤) (A : Atoms 𝓤) (W : Given
     walk : Is (ShrSlice (named 0) κ u8) s (v ∷ []) → ent 𝓤 (onEntry 𝓤 H A head.signature (κ, tt) (q, tt) (s, tt) (v ∷ [], tt)) (WpFn 𝓤 H C Λ code.function (v ∷ []) Post)
     walk p =
         qed W (raw (onEntry 𝓤 H A head.signature (κ, tt) (q, tt) (s, tt) (v ∷ [], tt)) ∷ []) ∵ enter ! C Λ code.function (v ∷ []) _ $
-        alloc1 ! (λ l₀. alloc1 ! (λ l₁. alloc1 ! (λ l₂. alloc1 ! (λ l₃. alloc1 ! (λ l₄. alloc1 ! (λ l₅. alloc1 ! (λ l₆. alloc1 ! (λ l₇. alloc1 ! (λ l₈. alloc1 ! (λ l₉. alloc1 ! (λ l₁₀. alloc1 ! (λ l₁₁. alloc1 ! (λ l₁₂. alloc1 ! (λ l₁₃. alloc1 ! (λ l₁₄. alloc1 ! (λ l₁₅. alloc1 ! (λ l₁₆. alloc1 ! (λ l₁₇. alloc1 ! (λ l₁₈. alloc1 ! (λ l₁₉. alloc1 ! (λ l₂₀. alloc1 ! (λ l₂₁. alloc1 ! (λ l₂₂. alloc0 ! $ params1 ! $
-        pass1 ! (init ! 42 refl (shr-slice-lawful 𝓤 H A W (named 0) κ u8 .typed s (v ∷ []) p .0)) $ pass0 ! $
-        move ! (46 ∷ []) $ use1 W (raw (New 𝓤 H A mem run .pre to-new) ⊛ ‵ Own) goes-new $ split ! $
+        alloc1 ! (λ l₀. alloc1 ! (λ l₁. alloc1 ! (λ l₂. alloc1 ! (λ l₃. alloc1 ! (λ l₄. alloc1 ! (λ l₅. alloc1 ! (λ l₆. alloc1 ! (λ l₇. alloc1 ! (λ l₈. alloc1 ! (λ l₉. alloc1 ! (λ l₁₀. alloc1 ! (λ l₁₁. alloc1 ! (λ l₁₂. alloc1 ! (λ l₁₃. alloc1 ! (λ l₁₄. alloc1 ! (λ l₁₅. alloc1 ! (λ l₁₆. alloc1 ! (λ l₁₇. alloc1 ! (λ l₁₈. alloc1 ! (λ l₁₉. alloc0 ! $ params1 ! $
+        pass1 ! (init ! 36 refl (shr-slice-lawful 𝓤 H A W (named 0) κ u8 .typed s (v ∷ []) p .0)) $ pass0 ! $
+        move ! (40 ∷ []) $ use1 W (raw (New 𝓤 H A mem run .pre to-new) ⊛ ‵ Own) goes-new $ split ! $
         -- the reading place is made
-        calls-at ! fm (New 𝓤 H A mem run) known-new to-new (and-then ! (load ! (from ! (stop !)) (look ! 44 refl)) (no-more !)) (λ u.
+        calls-at ! fm (New 𝓤 H A mem run) known-new to-new (and-then ! (load ! (from ! (stop !)) (look ! 38 refl)) (no-more !)) (λ u.
         use1 W (later (some (λ (r : Reader). ((‵ (flft κ q) ⊛ ‵ ftrue) ⊛ ‵ (B .own r (u ∷ []))) ⊛ raw (ensured 𝓤 H A new.ended (new.clauses 𝓤 H A mem run) (κ, tt) (s, tt) tt r)))) (id⊢ 𝓤 _) $ await ! tt $ pick ! (λ r.
         split ! $ move ! (1 ∷ []) $ use1 W (raw (fact 𝓤 (Made r))) (new-said r) $ heard ! (Made r) (λ e. split ! $ move ! (1 ∷ []) $ rewrite ! 0 (λ (y : Reader). ‵ (B .own y (u ∷ []))) (made-is r e) refl $
         peeks ! B (Is B) (shows 𝓤 H A B) made (u ∷ []) (λ is.
-        land ! (from ! (stop !)) (init ! 23 refl (LL.lawful (T.the-type αᵉ) (T′.the-laws αᵉ) 𝓤 H A W .typed made _ is .0)) $
-        rewrite ! 23 (λ (w : Val). ‵ (fat fullShare (T′.mir erased) l₁₂ 0 w)) (ap only (LL.tells (T.the-type α) (T′.the-laws α) made _ is)) refl $
+        land ! (from ! (stop !)) (init ! 15 refl (LL.lawful (T.the-type αᵉ) (T′.the-laws αᵉ) 𝓤 H A W .typed made _ is .0)) $
+        rewrite ! 15 (λ (w : Val). ‵ (fat fullShare (T′.mir erased) l₁₃ 0 w)) (ap only (LL.tells (T.the-type α) (T′.the-laws α) made _ is)) refl $
         rewrite ! 0 (λ (us : List Val). ‵ (B .own made us)) (LL.tells (T.the-type α) (T′.the-laws α) made _ is) refl $
-        assigns ! (of-opd ! (load ! (from ! (stop !)) (look ! 23 refl))) (from ! (stop !)) (init ! 43 refl (LL.lawful (T.the-type αᵉ) (T′.the-laws αᵉ) 𝓤 H A W .typed made _ (subst (Is B made) (LL.tells (T.the-type α) (T′.the-laws α) made _ is) is) .0)) $
-        -- form
-        assigns ! (addr ! (from ! (stop !))) (from ! (stop !)) (init ! 21 refl (tt, tt)) $
-        move ! (1 ∷ []) $ split ! $ move ! (44 ∷ 2 ∷ 0 ∷ []) $
-        use3 W (later (some (λ (a : ℕ). some (λ (δ : GName). raw (Read 𝓤 H A mem run .pre (lent.to 𝓤 H A W mem run κ q l₂ a δ made 4)) ⊛ lent.Aside 𝓤 H A W mem run κ q l₂ a δ)))) (lent.lends 𝓤 H A W mem run κ q l₂ made 4 (lit< tt)) $ await ! tt $ pick ! (λ a0. pick ! (λ δ0. split ! $
-        calls-at ! fm (Read 𝓤 H A mem run) known-read (lent.to 𝓤 H A W mem run κ q l₂ a0 δ0 made 4) (and-then ! (load ! (from ! (stop !)) (look ! 22 refl)) (and-then ! (lit ! tt) (no-more !))) (λ w0.
-        use2 W (later (some (λ (i : ℕ). given (lent.Number-read 𝓤 H A W mem run κ q l₂ made 4 (lit≤ tt) (lit≤ tt) w0 i) (lent.Room 𝓤 H A W mem run κ q l₂ (moved made (made .at + 4)))))) (lent.read-backs 𝓤 H A W mem run κ q l₂ made 4 (lit≤ tt) (lit≤ tt) a0 δ0 w0) $ await ! tt $ pick ! (λ i0. learn ! (λ k0.
-        land ! (from ! (stop !)) (init ! 41 refl (uint-lawful 𝓤 H A W w64 .typed i0 _ (k0 .1) .0)) $ rewrite ! 41 (λ (z : Val). ‵ (fat fullShare (tyInt w64) l₃ 0 z)) (ap only (k0 .1 .0)) refl $
-        -- nodes
-        assigns ! (addr ! (from ! (stop !))) (from ! (stop !)) (init ! 17 refl (tt, tt)) $
-        use1 W (later (some (λ (a : ℕ). some (λ (δ : GName). raw (Read 𝓤 H A mem run .pre (lent.to 𝓤 H A W mem run κ q l₂ a δ past1 3)) ⊛ lent.Aside 𝓤 H A W mem run κ q l₂ a δ)))) (lent.lends 𝓤 H A W mem run κ q l₂ past1 3 (lit< tt)) $ await ! tt $ pick ! (λ a1. pick ! (λ δ1. split ! $
-        calls-at ! fm (Read 𝓤 H A mem run) known-read (lent.to 𝓤 H A W mem run κ q l₂ a1 δ1 past1 3) (and-then ! (load ! (from ! (stop !)) (look ! 18 refl)) (and-then ! (lit ! tt) (no-more !))) (λ w1.
-        use2 W (later (some (λ (i : ℕ). given (lent.Number-read 𝓤 H A W mem run κ q l₂ past1 3 (lit≤ tt) (lit≤ tt) w1 i) (lent.Room 𝓤 H A W mem run κ q l₂ (moved past1 (past1 .at + 3)))))) (lent.read-backs 𝓤 H A W mem run κ q l₂ past1 3 (lit≤ tt) (lit≤ tt) a1 δ1 w1) $ await ! tt $ pick ! (λ i1. learn ! (λ k1.
-        land ! (from ! (stop !)) (init ! 19 refl (uint-lawful 𝓤 H A W w64 .typed i1 _ (k1 .1) .0)) $ rewrite ! 19 (λ (z : Val). ‵ (fat fullShare (tyInt w64) l₁₄ 0 z)) (ap only (k1 .1 .0)) refl $
-        assigns ! (bin ! (load ! (from ! (stop !)) (look ! 19 refl)) (lit ! tt) (record { fits = few-fits (nodes-few b (k1 .0)) })) (from ! (stop !)) (init ! 39 refl (tt, record { fits = few-fits (nodes-few b (k1 .0)) })) $
-        -- processes
-        assigns ! (addr ! (from ! (stop !))) (from ! (stop !)) (init ! 15 refl (tt, tt)) $
-        use1 W (later (some (λ (a : ℕ). some (λ (δ : GName). raw (Read 𝓤 H A mem run .pre (lent.to 𝓤 H A W mem run κ q l₂ a δ past2 4)) ⊛ lent.Aside 𝓤 H A W mem run κ q l₂ a δ)))) (lent.lends 𝓤 H A W mem run κ q l₂ past2 4 (lit< tt)) $ await ! tt $ pick ! (λ a2. pick ! (λ δ2. split ! $
-        calls-at ! fm (Read 𝓤 H A mem run) known-read (lent.to 𝓤 H A W mem run κ q l₂ a2 δ2 past2 4) (and-then ! (load ! (from ! (stop !)) (look ! 16 refl)) (and-then ! (lit ! tt) (no-more !))) (λ w2.
-        use2 W (later (some (λ (i : ℕ). given (lent.Number-read 𝓤 H A W mem run κ q l₂ past2 4 (lit≤ tt) (lit≤ tt) w2 i) (lent.Room 𝓤 H A W mem run κ q l₂ (moved past2 (past2 .at + 4)))))) (lent.read-backs 𝓤 H A W mem run κ q l₂ past2 4 (lit≤ tt) (lit≤ tt) a2 δ2 w2) $ await ! tt $ pick ! (λ i2. learn ! (λ k2.
-        land ! (from ! (stop !)) (store ! 19 refl (uint-lawful 𝓤 H A W w64 .typed i2 _ (k2 .1) .0)) $ rewrite ! 19 (λ (z : Val). ‵ (fat fullShare (tyInt w64) l₁₄ 0 z)) (ap only (k2 .1 .0)) refl $
-        assigns ! (bin ! (load ! (from ! (stop !)) (look ! 19 refl)) (lit ! tt) (record { fits = few-fits (count-few b 7 (k2 .0)) })) (from ! (stop !)) (init ! 37 refl (tt, record { fits = few-fits (count-few b 7 (k2 .0)) })) $
-        -- objects
+        assigns ! (of-opd ! (load ! (from ! (stop !)) (look ! 15 refl))) (from ! (stop !)) (init ! 37 refl (LL.lawful (T.the-type αᵉ) (T′.the-laws αᵉ) 𝓤 H A W .typed made _ (subst (Is B made) (LL.tells (T.the-type α) (T′.the-laws α) made _ is) is) .0)) $
+        -- the header
         assigns ! (addr ! (from ! (stop !))) (from ! (stop !)) (init ! 13 refl (tt, tt)) $
-        use1 W (later (some (λ (a : ℕ). some (λ (δ : GName). raw (Read 𝓤 H A mem run .pre (lent.to 𝓤 H A W mem run κ q l₂ a δ past3 4)) ⊛ lent.Aside 𝓤 H A W mem run κ q l₂ a δ)))) (lent.lends 𝓤 H A W mem run κ q l₂ past3 4 (lit< tt)) $ await ! tt $ pick ! (λ a3. pick ! (λ δ3. split ! $
-        calls-at ! fm (Read 𝓤 H A mem run) known-read (lent.to 𝓤 H A W mem run κ q l₂ a3 δ3 past3 4) (and-then ! (load ! (from ! (stop !)) (look ! 14 refl)) (and-then ! (lit ! tt) (no-more !))) (λ w3.
-        use2 W (later (some (λ (i : ℕ). given (lent.Number-read 𝓤 H A W mem run κ q l₂ past3 4 (lit≤ tt) (lit≤ tt) w3 i) (lent.Room 𝓤 H A W mem run κ q l₂ (moved past3 (past3 .at + 4)))))) (lent.read-backs 𝓤 H A W mem run κ q l₂ past3 4 (lit≤ tt) (lit≤ tt) a3 δ3 w3) $ await ! tt $ pick ! (λ i3. learn ! (λ k3.
-        land ! (from ! (stop !)) (store ! 19 refl (uint-lawful 𝓤 H A W w64 .typed i3 _ (k3 .1) .0)) $ rewrite ! 19 (λ (z : Val). ‵ (fat fullShare (tyInt w64) l₁₄ 0 z)) (ap only (k3 .1 .0)) refl $
-        assigns ! (bin ! (load ! (from ! (stop !)) (look ! 19 refl)) (lit ! tt) (record { fits = few-fits (count-few b 11 (k3 .0)) })) (from ! (stop !)) (init ! 35 refl (tt, record { fits = few-fits (count-few b 11 (k3 .0)) })) $
-        -- the spare bit
-        assigns ! (addr ! (from ! (stop !))) (from ! (stop !)) (init ! 11 refl (tt, tt)) $
-        use1 W (later (some (λ (a : ℕ). some (λ (δ : GName). raw (Read 𝓤 H A mem run .pre (lent.to 𝓤 H A W mem run κ q l₂ a δ past4 1)) ⊛ lent.Aside 𝓤 H A W mem run κ q l₂ a δ)))) (lent.lends 𝓤 H A W mem run κ q l₂ past4 1 (lit< tt)) $ await ! tt $ pick ! (λ a4. pick ! (λ δ4. split ! $
-        calls-at ! fm (Read 𝓤 H A mem run) known-read (lent.to 𝓤 H A W mem run κ q l₂ a4 δ4 past4 1) (and-then ! (load ! (from ! (stop !)) (look ! 12 refl)) (and-then ! (lit ! tt) (no-more !))) (λ w4.
-        use2 W (later (some (λ (i : ℕ). given (lent.Number-read 𝓤 H A W mem run κ q l₂ past4 1 (lit≤ tt) (lit≤ tt) w4 i) (lent.Room 𝓤 H A W mem run κ q l₂ (moved past4 (past4 .at + 1)))))) (lent.read-backs 𝓤 H A W mem run κ q l₂ past4 1 (lit≤ tt) (lit≤ tt) a4 δ4 w4) $ await ! tt $ pick ! (λ i4. learn ! (λ k4.
-        land ! (from ! (stop !)) (init ! 33 refl (uint-lawful 𝓤 H A W w64 .typed i4 _ (k4 .1) .0)) $ rewrite ! 33 (λ (z : Val). ‵ (fat fullShare (tyInt w64) l₇ 0 z)) (ap only (k4 .1 .0)) refl $
+        move ! (1 ∷ []) $ split ! $ move ! (38 ∷ 2 ∷ 0 ∷ []) $
+        use3 W (later (some (λ (a : ℕ). some (λ (δ : GName). raw (Read 𝓤 H A mem run .pre (lent.to 𝓤 H A W mem run κ q l₂ a δ made 16)) ⊛ lent.Aside 𝓤 H A W mem run κ q l₂ a δ)))) (lent.lends 𝓤 H A W mem run κ q l₂ made 16 (lit< tt)) $ await ! tt $ pick ! (λ a0. pick ! (λ δ0. split ! $
+        calls-at ! fm (Read 𝓤 H A mem run) known-read (lent.to 𝓤 H A W mem run κ q l₂ a0 δ0 made 16) (and-then ! (load ! (from ! (stop !)) (look ! 14 refl)) (and-then ! (lit ! tt) (no-more !))) (λ w0.
+        use2 W (later (some (λ (i : ℕ). given (lent.Number-read 𝓤 H A W mem run κ q l₂ made 16 (lit≤ tt) (lit≤ tt) w0 i) (lent.Room 𝓤 H A W mem run κ q l₂ past1)))) (lent.read-backs 𝓤 H A W mem run κ q l₂ made 16 (lit≤ tt) (lit≤ tt) a0 δ0 w0) $ await ! tt $ pick ! (λ h. learn ! (λ k0.
+        land ! (from ! (stop !)) (init ! 35 refl (uint-lawful 𝓤 H A W w64 .typed h _ (k0 .1) .0)) $ rewrite ! 35 (λ (z : Val). ‵ (fat fullShare (tyInt w64) l₃ 0 z)) (ap only (k0 .1 .0)) refl $
+        -- its parts
+        assigns ! (bin ! (load ! (from ! (stop !)) (look ! 35 refl)) (lit ! tt) (lit< tt)) (from ! (stop !)) (init ! 11 refl (tt, record { fits = div-fits h 512 (k0 .1 .1) })) $
+        assigns ! (bin ! (load ! (from ! (stop !)) (look ! 11 refl)) (lit ! tt) (lit< tt)) (from ! (stop !)) (init ! 33 refl (tt, record { fits = div-fits (h / 512) 8 (div-fits h 512 (k0 .1 .1)) })) $
+        assigns ! (bin ! (load ! (from ! (stop !)) (look ! 35 refl)) (lit ! tt) (lit< tt)) (from ! (stop !)) (store ! 11 refl (tt, record { fits = div-fits h 512 (k0 .1 .1) })) $
+        assigns ! (bin ! (load ! (from ! (stop !)) (look ! 11 refl)) (lit ! tt) (lit< tt)) (from ! (stop !)) (init ! 9 refl (tt, record { fits = mod-fits (h / 512) 8 (div-fits h 512 (k0 .1 .1)) })) $
+        assigns ! (bin ! (load ! (from ! (stop !)) (look ! 9 refl)) (lit ! tt) (record { fits = few-fits (nodes-few h) })) (from ! (stop !)) (init ! 31 refl (tt, record { fits = few-fits (nodes-few h) })) $
+        assigns ! (bin ! (load ! (from ! (stop !)) (look ! 35 refl)) (lit ! tt) (lit< tt)) (from ! (stop !)) (store ! 11 refl (tt, record { fits = div-fits h 32 (k0 .1 .1) })) $
+        assigns ! (bin ! (load ! (from ! (stop !)) (look ! 11 refl)) (lit ! tt) (lit< tt)) (from ! (stop !)) (store ! 9 refl (tt, record { fits = mod-fits (h / 32) 16 (div-fits h 32 (k0 .1 .1)) })) $
+        assigns ! (bin ! (load ! (from ! (stop !)) (look ! 9 refl)) (lit ! tt) (record { fits = few-fits (count-few (h / 32)) })) (from ! (stop !)) (init ! 29 refl (tt, record { fits = few-fits (count-few (h / 32)) })) $
+        assigns ! (bin ! (load ! (from ! (stop !)) (look ! 35 refl)) (lit ! tt) (lit< tt)) (from ! (stop !)) (store ! 11 refl (tt, record { fits = div-fits h 2 (k0 .1 .1) })) $
+        assigns ! (bin ! (load ! (from ! (stop !)) (look ! 11 refl)) (lit ! tt) (lit< tt)) (from ! (stop !)) (store ! 9 refl (tt, record { fits = mod-fits (h / 2) 16 (div-fits h 2 (k0 .1 .1)) })) $
+        assigns ! (bin ! (load ! (from ! (stop !)) (look ! 9 refl)) (lit ! tt) (record { fits = few-fits (count-few (h / 2)) })) (from ! (stop !)) (init ! 27 refl (tt, record { fits = few-fits (count-few (h / 2)) })) $
+        assigns ! (bin ! (load ! (from ! (stop !)) (look ! 35 refl)) (lit ! tt) (lit< tt)) (from ! (stop !)) (init ! 25 refl (tt, record { fits = mod-fits h 2 (k0 .1 .1) })) $
         -- the homes of the processes
-        assigns ! (addr ! (from ! (stop !))) (from ! (stop !)) (init ! 9 refl (tt, tt)) $
-        use1 W (later (some (λ (a : ℕ). some (λ (δ : GName). raw (Homes 𝓤 H A mem run .pre (lent.to 𝓤 H A W mem run κ q l₂ a δ past5 (i2 + 1))) ⊛ lent.Aside 𝓤 H A W mem run κ q l₂ a δ)))) (lent.lends 𝓤 H A W mem run κ q l₂ past5 (i2 + 1) (few-fits (count-few b 7 (k2 .0)))) $ await ! tt $ pick ! (λ a5. pick ! (λ δ5. split ! $
-        calls-at ! fm (Homes 𝓤 H A mem run) known-homes (lent.to 𝓤 H A W mem run κ q l₂ a5 δ5 past5 (i2 + 1)) (and-then ! (load ! (from ! (stop !)) (look ! 10 refl)) (and-then ! (load ! (from ! (stop !)) (look ! 38 refl)) (no-more !))) (λ w5.
-        use2 W (later (some (λ (i : List ℕ). given (lent.Homes-read 𝓤 H A W mem run κ q l₂ past5 (i2 + 1) (count-few b 7 (k2 .0)) (lit≤ tt) w5 i) (lent.Room 𝓤 H A W mem run κ q l₂ (moved past5 (past5 .at + 3 * (i2 + 1))))))) (lent.homes-backs 𝓤 H A W mem run κ q l₂ past5 (i2 + 1) (count-few b 7 (k2 .0)) (lit≤ tt) a5 δ5 w5) $ await ! tt $ pick ! (λ i5. learn ! (λ k5.
-        land ! (from ! (stop !)) (init ! 31 refl (array-lawful 𝓤 H A W u8 (uint-lawful 𝓤 H A W w8) 16 .typed i5 _ (k5 .1) .0)) $ rewrite ! 31 (λ (z : Val). ‵ (fat fullShare (tyArray (tyInt w8) 16) l₈ 0 z)) (ap only (array-tells u8 (λ (x : ℕ). vint w8 x ∷ []) (uint-tells w8) 16 i5 _ (k5 .1))) refl $
-        -- the homes of the objects
         assigns ! (addr ! (from ! (stop !))) (from ! (stop !)) (init ! 7 refl (tt, tt)) $
-        use1 W (later (some (λ (a : ℕ). some (λ (δ : GName). raw (Homes 𝓤 H A mem run .pre (lent.to 𝓤 H A W mem run κ q l₂ a δ (past6 (i2 + 1)) (i3 + 1))) ⊛ lent.Aside 𝓤 H A W mem run κ q l₂ a δ)))) (lent.lends 𝓤 H A W mem run κ q l₂ (past6 (i2 + 1)) (i3 + 1) (few-fits (count-few b 11 (k3 .0)))) $ await ! tt $ pick ! (λ a6. pick ! (λ δ6. split ! $
-        calls-at ! fm (Homes 𝓤 H A mem run) known-homes (lent.to 𝓤 H A W mem run κ q l₂ a6 δ6 (past6 (i2 + 1)) (i3 + 1)) (and-then ! (load ! (from ! (stop !)) (look ! 8 refl)) (and-then ! (load ! (from ! (stop !)) (look ! 36 refl)) (no-more !))) (λ w6.
-        use2 W (later (some (λ (i : List ℕ). given (lent.Homes-read 𝓤 H A W mem run κ q l₂ (past6 (i2 + 1)) (i3 + 1) (count-few b 11 (k3 .0)) (processes-near (count-few b 7 (k2 .0))) w6 i) (lent.Room 𝓤 H A W mem run κ q l₂ (moved (past6 (i2 + 1)) ((past6 (i2 + 1)) .at + 3 * (i3 + 1))))))) (lent.homes-backs 𝓤 H A W mem run κ q l₂ (past6 (i2 + 1)) (i3 + 1) (count-few b 11 (k3 .0)) (processes-near (count-few b 7 (k2 .0))) a6 δ6 w6) $ await ! tt $ pick ! (λ i6. learn ! (λ k6.
-        land ! (from ! (stop !)) (init ! 29 refl (array-lawful 𝓤 H A W u8 (uint-lawful 𝓤 H A W w8) 16 .typed i6 _ (k6 .1) .0)) $ rewrite ! 29 (λ (z : Val). ‵ (fat fullShare (tyArray (tyInt w8) 16) l₉ 0 z)) (ap only (array-tells u8 (λ (x : ℕ). vint w8 x ∷ []) (uint-tells w8) 16 i6 _ (k6 .1))) refl $
+        use1 W (later (some (λ (a : ℕ). some (λ (δ : GName). raw (Homes 𝓤 H A mem run .pre (lent.to 𝓤 H A W mem run κ q l₂ a δ past1 (processesIn h))) ⊛ lent.Aside 𝓤 H A W mem run κ q l₂ a δ)))) (lent.lends 𝓤 H A W mem run κ q l₂ past1 (processesIn h) (few-fits (count-few (h / 32)))) $ await ! tt $ pick ! (λ a1. pick ! (λ δ1. split ! $
+        calls-at ! fm (Homes 𝓤 H A mem run) known-homes (lent.to 𝓤 H A W mem run κ q l₂ a1 δ1 past1 (processesIn h)) (and-then ! (load ! (from ! (stop !)) (look ! 8 refl)) (and-then ! (load ! (from ! (stop !)) (look ! 30 refl)) (no-more !))) (λ w1.
+        use2 W (later (some (λ (i : List ℕ). given (lent.Homes-read 𝓤 H A W mem run κ q l₂ past1 (processesIn h) (count-few (h / 32)) (lit≤ tt) w1 i) (lent.Room 𝓤 H A W mem run κ q l₂ (past2 (processesIn h)))))) (lent.homes-backs 𝓤 H A W mem run κ q l₂ past1 (processesIn h) (count-few (h / 32)) (lit≤ tt) a1 δ1 w1) $ await ! tt $ pick ! (λ hp. learn ! (λ k1.
+        land ! (from ! (stop !)) (init ! 23 refl (array-lawful 𝓤 H A W u8 (uint-lawful 𝓤 H A W w8) 16 .typed hp _ (k1 .1) .0)) $ rewrite ! 23 (λ (z : Val). ‵ (fat fullShare (tyArray (tyInt w8) 16) l₉ 0 z)) (ap only (array-tells u8 (λ (x : ℕ). vint w8 x ∷ []) (uint-tells w8) 16 hp _ (k1 .1))) refl $
+        -- the homes of the objects
+        assigns ! (addr ! (from ! (stop !))) (from ! (stop !)) (init ! 5 refl (tt, tt)) $
+        use1 W (later (some (λ (a : ℕ). some (λ (δ : GName). raw (Homes 𝓤 H A mem run .pre (lent.to 𝓤 H A W mem run κ q l₂ a δ (past2 (processesIn h)) (objectsIn h))) ⊛ lent.Aside 𝓤 H A W mem run κ q l₂ a δ)))) (lent.lends 𝓤 H A W mem run κ q l₂ (past2 (processesIn h)) (objectsIn h) (few-fits (count-few (h / 2)))) $ await ! tt $ pick ! (λ a2. pick ! (λ δ2. split ! $
+        calls-at ! fm (Homes 𝓤 H A mem run) known-homes (lent.to 𝓤 H A W mem run κ q l₂ a2 δ2 (past2 (processesIn h)) (objectsIn h)) (and-then ! (load ! (from ! (stop !)) (look ! 6 refl)) (and-then ! (load ! (from ! (stop !)) (look ! 28 refl)) (no-more !))) (λ w2.
+        use2 W (later (some (λ (i : List ℕ). given (lent.Homes-read 𝓤 H A W mem run κ q l₂ (past2 (processesIn h)) (objectsIn h) (count-few (h / 2)) (processes-near (count-few (h / 32))) w2 i) (lent.Room 𝓤 H A W mem run κ q l₂ (past3 (processesIn h) (objectsIn h)))))) (lent.homes-backs 𝓤 H A W mem run κ q l₂ (past2 (processesIn h)) (objectsIn h) (count-few (h / 2)) (processes-near (count-few (h / 32))) a2 δ2 w2) $ await ! tt $ pick ! (λ ho. learn ! (λ k2.
+        land ! (from ! (stop !)) (init ! 21 refl (array-lawful 𝓤 H A W u8 (uint-lawful 𝓤 H A W w8) 16 .typed ho _ (k2 .1) .0)) $ rewrite ! 21 (λ (z : Val). ‵ (fat fullShare (tyArray (tyInt w8) 16) l₁₀ 0 z)) (ap only (array-tells u8 (λ (x : ℕ). vint w8 x ∷ []) (uint-tells w8) 16 ho _ (k2 .1))) refl $
         -- the bits left to the byte's end
         split ! $ move ! (1 ∷ []) $ split ! $
-        assigns ! (of-opd ! (load ! (from ! (fld ! refl (stop !))) (look-in ! 2 (sub ! 1 refl (whole !))))) (from ! (stop !)) (store ! 21 refl (tt, record { fits = near-fits (homes-near (count-few b 7 (k2 .0)) (count-few b 11 (k3 .0))) })) $
-        nothing ! $ use1 W (raw (Left 𝓤 H A mem run .pre (to-left (past7 (i2 + 1) (i3 + 1) .at)))) (asks-left (past7 (i2 + 1) (i3 + 1) .at) (near-fits (homes-near (count-few b 7 (k2 .0)) (count-few b 11 (k3 .0))))) $
-        calls-at ! fm (Left 𝓤 H A mem run) known-left (to-left (past7 (i2 + 1) (i3 + 1) .at)) (and-then ! (load ! (from ! (stop !)) (look ! 22 refl)) (no-more !)) (λ wl.
-        use1 W (later (some (λ (j : ℕ). (‵ ftrue ⊛ ‵ (usize .own j (wl ∷ []))) ⊛ raw (ensured 𝓤 H A left.ended (left.clauses 𝓤 H A mem run) tt ((past7 (i2 + 1) (i3 + 1) .at), tt) tt j)))) (id⊢ 𝓤 _) $ await ! tt $ pick ! (λ j.
-        split ! $ move ! (1 ∷ []) $ use1 W (raw (fact 𝓤 (j ≡ leftAt (past7 (i2 + 1) (i3 + 1) .at)))) (left-said (past7 (i2 + 1) (i3 + 1) .at) j) $ heard ! (j ≡ leftAt (past7 (i2 + 1) (i3 + 1) .at)) (λ ej. split ! $ drop ! $ peeks ! usize (Is usize) (shows 𝓤 H A usize) j (wl ∷ []) (λ kj. drop ! $
-        land ! (from ! (stop !)) (init ! 29 refl (uint-lawful 𝓤 H A W w64 .typed j _ kj .0)) $ rewrite ! 29 (λ (z : Val). ‵ (fat fullShare (tyInt w64) l₁₀ 0 z)) (ap only (kj .0)) refl $
+        assigns ! (of-opd ! (load ! (from ! (fld ! refl (stop !))) (look-in ! 2 (sub ! 1 refl (whole !))))) (from ! (stop !)) (store ! 13 refl (tt, record { fits = near-fits (homes-near (count-few (h / 32)) (count-few (h / 2))) })) $
+        nothing ! $ use1 W (raw (Left 𝓤 H A mem run .pre (to-left (endIn h)))) (asks-left (endIn h) (near-fits (homes-near (count-few (h / 32)) (count-few (h / 2))))) $
+        calls-at ! fm (Left 𝓤 H A mem run) known-left (to-left (endIn h)) (and-then ! (load ! (from ! (stop !)) (look ! 14 refl)) (no-more !)) (λ wl.
+        use1 W (later (some (λ (j : ℕ). (‵ ftrue ⊛ ‵ (usize .own j (wl ∷ []))) ⊛ raw (ensured 𝓤 H A left.ended (left.clauses 𝓤 H A mem run) tt ((endIn h), tt) tt j)))) (id⊢ 𝓤 _) $ await ! tt $ pick ! (λ j.
+        split ! $ move ! (1 ∷ []) $ use1 W (raw (fact 𝓤 (j ≡ leftAt (endIn h)))) (left-said (endIn h) j) $ heard ! (j ≡ leftAt (endIn h)) (λ ej. split ! $ drop ! $ peeks ! usize (Is usize) (shows 𝓤 H A usize) j (wl ∷ []) (λ kj. drop ! $
+        land ! (from ! (stop !)) (init ! 21 refl (uint-lawful 𝓤 H A W w64 .typed j _ kj .0)) $ rewrite ! 21 (λ (z : Val). ‵ (fat fullShare (tyInt w64) l₁₁ 0 z)) (ap only (kj .0)) refl $
         -- the spare bits after the homes
-        assigns ! (addr ! (from ! (stop !))) (from ! (stop !)) (init ! 7 refl (tt, tt)) $
+        assigns ! (addr ! (from ! (stop !))) (from ! (stop !)) (init ! 5 refl (tt, tt)) $
         move ! (2 ∷ 0 ∷ 1 ∷ []) $
-        use3 W (later (some (λ (a : ℕ). some (λ (δ : GName). raw (Read 𝓤 H A mem run .pre (lent.to 𝓤 H A W mem run κ q l₂ a δ (past7 (i2 + 1) (i3 + 1)) j)) ⊛ lent.Aside 𝓤 H A W mem run κ q l₂ a δ)))) (lent.lends 𝓤 H A W mem run κ q l₂ (past7 (i2 + 1) (i3 + 1)) j (few-fits (left-few (past7 (i2 + 1) (i3 + 1) .at) ej))) $ await ! tt $ pick ! (λ a7. pick ! (λ δ7. split ! $
-        calls-at ! fm (Read 𝓤 H A mem run) known-read (lent.to 𝓤 H A W mem run κ q l₂ a7 δ7 (past7 (i2 + 1) (i3 + 1)) j) (and-then ! (load ! (from ! (stop !)) (look ! 6 refl)) (and-then ! (load ! (from ! (stop !)) (look ! 28 refl)) (no-more !))) (λ w7.
-        use2 W (later (some (λ (i : ℕ). given (lent.Number-read 𝓤 H A W mem run κ q l₂ (past7 (i2 + 1) (i3 + 1)) j (left-few (past7 (i2 + 1) (i3 + 1) .at) ej) (homes-near (count-few b 7 (k2 .0)) (count-few b 11 (k3 .0))) w7 i) (lent.Room 𝓤 H A W mem run κ q l₂ (moved (past7 (i2 + 1) (i3 + 1)) ((past7 (i2 + 1) (i3 + 1)) .at + j)))))) (lent.read-backs 𝓤 H A W mem run κ q l₂ (past7 (i2 + 1) (i3 + 1)) j (left-few (past7 (i2 + 1) (i3 + 1) .at) ej) (homes-near (count-few b 7 (k2 .0)) (count-few b 11 (k3 .0))) a7 δ7 w7) $ await ! tt $ pick ! (λ i7. learn ! (λ k7.
-        land ! (from ! (stop !)) (init ! 25 refl (uint-lawful 𝓤 H A W w64 .typed i7 _ (k7 .1) .0)) $ rewrite ! 25 (λ (z : Val). ‵ (fat fullShare (tyInt w64) l₁₁ 0 z)) (ap only (k7 .1 .0)) refl $
+        use3 W (later (some (λ (a : ℕ). some (λ (δ : GName). raw (Read 𝓤 H A mem run .pre (lent.to 𝓤 H A W mem run κ q l₂ a δ (past3 (processesIn h) (objectsIn h)) j)) ⊛ lent.Aside 𝓤 H A W mem run κ q l₂ a δ)))) (lent.lends 𝓤 H A W mem run κ q l₂ (past3 (processesIn h) (objectsIn h)) j (few-fits (left-few (endIn h) ej))) $ await ! tt $ pick ! (λ a3. pick ! (λ δ3. split ! $
+        calls-at ! fm (Read 𝓤 H A mem run) known-read (lent.to 𝓤 H A W mem run κ q l₂ a3 δ3 (past3 (processesIn h) (objectsIn h)) j) (and-then ! (load ! (from ! (stop !)) (look ! 4 refl)) (and-then ! (load ! (from ! (stop !)) (look ! 20 refl)) (no-more !))) (λ w3.
+        use2 W (later (some (λ (i : ℕ). given (lent.Number-read 𝓤 H A W mem run κ q l₂ (past3 (processesIn h) (objectsIn h)) j (left-few (endIn h) ej) (homes-near (count-few (h / 32)) (count-few (h / 2))) w3 i) (lent.Room 𝓤 H A W mem run κ q l₂ (moved made (endIn h + j)))))) (lent.read-backs 𝓤 H A W mem run κ q l₂ (past3 (processesIn h) (objectsIn h)) j (left-few (endIn h) ej) (homes-near (count-few (h / 32)) (count-few (h / 2))) a3 δ3 w3) $ await ! tt $ pick ! (λ y. learn ! (λ k3.
+        land ! (from ! (stop !)) (init ! 17 refl (uint-lawful 𝓤 H A W w64 .typed y _ (k3 .1) .0)) $ rewrite ! 17 (λ (z : Val). ‵ (fat fullShare (tyInt w64) l₁₂ 0 z)) (ap only (k3 .1 .0)) refl $
         -- the byte after them; the struct is made, and the locals are freed
         split ! $ move ! (1 ∷ []) $ split ! $
-        assigns ! (of-opd ! (load ! (from ! (fld ! refl (stop !))) (look-in ! 2 (sub ! 1 refl (whole !))))) (from ! (stop !)) (store ! 21 refl (tt, record { fits = past-fits (homes-near (count-few b 7 (k2 .0)) (count-few b 11 (k3 .0))) (left-few (past7 (i2 + 1) (i3 + 1) .at) ej) })) $
-        assigns ! (bin ! (load ! (from ! (stop !)) (look ! 21 refl)) (lit ! tt) (lit< tt)) (from ! (stop !)) (init ! 5 refl (tt, record { fits = start-fits (homes-near (count-few b 7 (k2 .0)) (count-few b 11 (k3 .0))) (left-few (past7 (i2 + 1) (i3 + 1) .at) ej) })) $
-        assigns ! (agg ! (and-then ! (load ! (from ! (stop !)) (look ! 43 refl)) (and-then ! (load ! (from ! (stop !)) (look ! 41 refl)) (and-then ! (load ! (from ! (stop !)) (look ! 39 refl)) (and-then ! (load ! (from ! (stop !)) (look ! 37 refl)) (and-then ! (load ! (from ! (stop !)) (look ! 35 refl)) (and-then ! (load ! (from ! (stop !)) (look ! 33 refl)) (and-then ! (load ! (from ! (stop !)) (look ! 31 refl)) (and-then ! (load ! (from ! (stop !)) (look ! 27 refl)) (and-then ! (load ! (from ! (stop !)) (look ! 5 refl)) (no-more !))))))))))) (from ! (stop !)) (init ! 48 refl (LL.lawful P.the-type P′.the-laws 𝓤 H A W .typed (found i0 (i1 + 1) (i2 + 1) (i3 + 1) i4 i5 i6 i7 (((past7 (i2 + 1) (i3 + 1) .at) + j) / 8)) _ (held i0 (i1 + 1) (i2 + 1) (i3 + 1) i4 i5 i6 i7 (((past7 (i2 + 1) (i3 + 1) .at) + j) / 8) (k0 .1 .1) (few-fits (nodes-few b (k1 .0))) (few-fits (count-few b 7 (k2 .0))) (few-fits (count-few b 11 (k3 .0))) (k4 .1 .1) (spelled i5 w5 (k5 .1)) (spelled i6 w6 (k6 .1)) (k7 .1 .1) (start-fits (homes-near (count-few b 7 (k2 .0)) (count-few b 11 (k3 .0))) (left-few (past7 (i2 + 1) (i3 + 1) .at) ej))) .0)) $
-        returns ! (look ! 48 refl) $ forget ! 48 refl $ forget ! 46 refl $ forget ! 2 refl $ forget ! 43 refl $ forget ! 41 refl $ forget ! 39 refl $ forget ! 37 refl $ forget ! 35 refl $ forget ! 33 refl $ forget ! 31 refl $ forget ! 29 refl $ forget ! 27 refl $ forget ! 25 refl $ forget ! 23 refl $ forget ! 21 refl $ forget ! 19 refl $ forget ! 17 refl $ forget ! 15 refl $ forget ! 13 refl $ forget ! 11 refl $ forget ! 9 refl $ forget ! 7 refl $ forget ! 5 refl $
-        move ! (48 ∷ 49 ∷ []) $ free1 ! $ move ! (46 ∷ 47 ∷ []) $ free1 ! $ move ! (2 ∷ 45 ∷ []) $ free1 ! $ move ! (42 ∷ 43 ∷ []) $ free1 ! $ move ! (40 ∷ 41 ∷ []) $ free1 ! $ move ! (38 ∷ 39 ∷ []) $ free1 ! $ move ! (36 ∷ 37 ∷ []) $ free1 ! $ move ! (34 ∷ 35 ∷ []) $ free1 ! $ move ! (32 ∷ 33 ∷ []) $ free1 ! $ move ! (30 ∷ 31 ∷ []) $ free1 ! $ move ! (28 ∷ 29 ∷ []) $ free1 ! $ move ! (26 ∷ 27 ∷ []) $ free1 ! $ move ! (24 ∷ 25 ∷ []) $ free1 ! $ move ! (22 ∷ 23 ∷ []) $ free1 ! $ move ! (20 ∷ 21 ∷ []) $ free1 ! $ move ! (18 ∷ 19 ∷ []) $ free1 ! $ move ! (16 ∷ 17 ∷ []) $ free1 ! $ move ! (14 ∷ 15 ∷ []) $ free1 ! $ move ! (12 ∷ 13 ∷ []) $ free1 ! $ move ! (10 ∷ 11 ∷ []) $ free1 ! $ move ! (8 ∷ 9 ∷ []) $ free1 ! $ move ! (6 ∷ 7 ∷ []) $ free1 ! $ move ! (4 ∷ 5 ∷ []) $ free1 ! $ free0 ! $
-        keep ! (1 ∷ 3 ∷ []) $ by ! (exits (found i0 (i1 + 1) (i2 + 1) (i3 + 1) i4 i5 i6 i7 (((past7 (i2 + 1) (i3 + 1) .at) + j) / 8)) (head-is b (k0 .0) (k1 .0) (k2 .0) (k3 .0) (k4 .0) (k5 .0) (k6 .0) ej (k7 .0)) (held i0 (i1 + 1) (i2 + 1) (i3 + 1) i4 i5 i6 i7 (((past7 (i2 + 1) (i3 + 1) .at) + j) / 8) (k0 .1 .1) (few-fits (nodes-few b (k1 .0))) (few-fits (count-few b 7 (k2 .0))) (few-fits (count-few b 11 (k3 .0))) (k4 .1 .1) (spelled i5 w5 (k5 .1)) (spelled i6 w6 (k6 .1)) (k7 .1 .1) (start-fits (homes-near (count-few b 7 (k2 .0)) (count-few b 11 (k3 .0))) (left-few (past7 (i2 + 1) (i3 + 1) .at) ej)))))))))))))))))))))))))))))))))))))))))))))))))))))))))))))))))))))))))))
+        assigns ! (of-opd ! (load ! (from ! (fld ! refl (stop !))) (look-in ! 2 (sub ! 1 refl (whole !))))) (from ! (stop !)) (store ! 11 refl (tt, record { fits = past-fits (homes-near (count-few (h / 32)) (count-few (h / 2))) (left-few (endIn h) ej) })) $
+        assigns ! (bin ! (load ! (from ! (stop !)) (look ! 11 refl)) (lit ! tt) (lit< tt)) (from ! (stop !)) (store ! 13 refl (tt, record { fits = start-fits (homes-near (count-few (h / 32)) (count-few (h / 2))) (left-few (endIn h) ej) })) $
+        assigns ! (agg ! (and-then ! (load ! (from ! (stop !)) (look ! 35 refl)) (and-then ! (load ! (from ! (stop !)) (look ! 33 refl)) (and-then ! (load ! (from ! (stop !)) (look ! 31 refl)) (and-then ! (load ! (from ! (stop !)) (look ! 29 refl)) (and-then ! (load ! (from ! (stop !)) (look ! 27 refl)) (and-then ! (load ! (from ! (stop !)) (look ! 25 refl)) (and-then ! (load ! (from ! (stop !)) (look ! 23 refl)) (and-then ! (load ! (from ! (stop !)) (look ! 19 refl)) (and-then ! (load ! (from ! (stop !)) (look ! 13 refl)) (no-more !))))))))))) (from ! (stop !)) (init ! 42 refl (LL.lawful P.the-type P′.the-laws 𝓤 H A W .typed (head-read h hp ho y j) _ (is-head h hp ho y j (k0 .1 .1) (spelled hp w1 (k1 .1)) (spelled ho w2 (k2 .1)) (k3 .1 .1) ej) .0)) $
+        returns ! (look ! 42 refl) $ move ! (42 ∷ 43 ∷ 40 ∷ 41 ∷ 2 ∷ 39 ∷ 37 ∷ 38 ∷ 35 ∷ 36 ∷ 33 ∷ 34 ∷ 31 ∷ 32 ∷ 29 ∷ 30 ∷ 27 ∷ 28 ∷ 25 ∷ 26 ∷ 23 ∷ 24 ∷ 21 ∷ 22 ∷ 19 ∷ 20 ∷ 17 ∷ 18 ∷ 15 ∷ 16 ∷ 13 ∷ 14 ∷ 11 ∷ 12 ∷ 9 ∷ 10 ∷ 7 ∷ 8 ∷ 5 ∷ 6 ∷ []) $ leaves ! ((_, (l₀, _)) ∷ (_, (l₁, _)) ∷ (_, (l₂, _)) ∷ (_, (l₃, _)) ∷ (_, (l₄, _)) ∷ (_, (l₅, _)) ∷ (_, (l₆, _)) ∷ (_, (l₇, _)) ∷ (_, (l₈, _)) ∷ (_, (l₉, _)) ∷ (_, (l₁₀, _)) ∷ (_, (l₁₁, _)) ∷ (_, (l₁₂, _)) ∷ (_, (l₁₃, _)) ∷ (_, (l₁₄, _)) ∷ (_, (l₁₅, _)) ∷ (_, (l₁₆, _)) ∷ (_, (l₁₇, _)) ∷ (_, (l₁₈, _)) ∷ (_, (l₁₉, _)) ∷ []) $
+        keep ! (1 ∷ 3 ∷ []) $ by ! (exits (head-read h hp ho y j) (head-is b (k0 .0) (k1 .0) (k2 .0) ej (k3 .0)) (is-head h hp ho y j (k0 .1 .1) (spelled hp w1 (k1 .1)) (spelled ho w2 (k2 .1)) (k3 .1 .1) ej))))))))))))))))))))))))))))))))))))))))))))))))))
 
 module _ {M : Type 1} (𝓤 : URA M) (H : Heap 𝓤) (A : Atoms 𝓤) (W : Given 𝓤 H A) (mem : Memory → SProp 𝓤) (run : Routine → Fun 𝓤) where
   head-walks : (C : Calls 𝓤 H) (Λ : Loops 𝓤 H) → FmC 𝓤 H (W .laws) C → Triple 𝓤 (C #reader·new) (New 𝓤 H A mem run) → Triple 𝓤 (C #reader·read) (Read 𝓤 H A mem run) → Triple 𝓤 (C #reader·homes) (Homes 𝓤 H A mem run) → Triple 𝓤 (C #reader·whole·left) (Left 𝓤 H A mem run)

@@ -59,8 +59,9 @@ rem-result c = mask-some (c .before .before .before .before .args .n) (omega ari
 
 returns : tie.Need-returns
 returns c =
-    field-of-bytes (c .before .before .before .before .args .s .now) (c .before .before .before .before .args .at) (c .before .before .before .before .args .n)
-    (omega arith) (omega arith) (omega arith) (omega arith) (c .before .before .byte .ensures) (c .before .byte2 .ensures) (c .byte3 .ensures)
+    let passed = c .before .before .before .before .args in
+    field-of-bytes (passed .s .now) (passed .at) (passed .n) (omega arith) (omega arith) (omega arith) (omega arith)
+    (c .before .before .byte .ensures) (c .before .byte2 .ensures) (c .byte3 .ensures)
 
 pub field-spec : {M : Type 1} → statement M
 field-spec =
