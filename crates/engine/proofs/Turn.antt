@@ -24,7 +24,7 @@ use Rattle.rules.specs.Lists.{noEntries, plain}
 use Rattle.rules.specs.Board.{processAt, putProcess, send, kindLoad, load}
 use Rattle.rules.specs.Commands.{modeOf, requested, released, delivered, effect, answerTo, turn}
 use Rattle.rules.specs.Sheet.{byKind}
-use Rattle.homes.specs.Tests.{homeRequestTests, homeReleaseTests}
+use Rattle.processes.specs.Tests.{homeRequestTests, homeReleaseTests}
 use Rattle.engine.specs.Packed.{homeAnswer, topLoad, bookAfter, kindSent}
 
 -- the answer's number and the board of a turn

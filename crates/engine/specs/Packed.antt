@@ -8,7 +8,7 @@ use Rattle.rules.specs.Tables.{pick}
 use Rattle.rules.specs.Answers.{number, firstOf}
 use Rattle.rules.specs.Home.{asking, dropping}
 use Rattle.rules.specs.Commands.{modeOf}
-use Rattle.homes.specs.Tests.{homeRequestTests, homeReleaseTests}
+use Rattle.processes.specs.Tests.{homeRequestTests, homeReleaseTests}
 
 -- the number of the first refusal, without that of the load
 unfoldable pub homeAnswer : ℕ → ℕ → ℕ → ℕ → ℕ → Process → ℕ

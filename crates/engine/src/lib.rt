@@ -124,7 +124,7 @@ pub fn turns(start: Board, s: &[u8], lowest: bool, most: usize, room: &mut [u8])
                     }
                     Kind::Grant(q, x, mode) => {
                         let qi = wide(q);
-                        let process = homes::granted(b.processes[qi], x, mode);
+                        let process = processes::granted(b.processes[qi], x, mode);
                         b.processes[qi] = process;
                         continue;
                     }

@@ -31,8 +31,8 @@ pub fn home_answer(kind: u8, p: u8, o: u8, processes: u8, objects: u8, book: Pro
     ensures { λ r. ⌜ r ≡ homeAnswer kind p o processes objects book ⌝ }
 {
     match kind {
-        2 => values::answer::number(homes::release_answer(p, o, processes, objects, book)),
-        _ => values::answer::number(homes::request_answer(p, o, processes, objects, book)),
+        2 => values::answer::number(processes::release_answer(p, o, processes, objects, book)),
+        _ => values::answer::number(processes::request_answer(p, o, processes, objects, book)),
     }
 }
 
@@ -52,8 +52,8 @@ pub fn book_after(kind: u8, book: Process, o: u8) -> Process
     ensures { λ r. ⌜ r ≡ bookAfter kind book o ⌝ }
 {
     match kind {
-        2 => homes::dropping(book, o),
-        _ => homes::asking(book, o, mode_of(kind)),
+        2 => processes::dropping(book, o),
+        _ => processes::asking(book, o, mode_of(kind)),
     }
 }
 

@@ -9,8 +9,8 @@ use Rattle.rules.specs.Home.{isHold}
 use Rattle.rules.proofs.Bits.{taken-or}
 use Rattle.rules.specs.Book.{holdIn}
 use borrow.Author.Needs.{needs}
-use Rattle.homes.proofs.holds.Statement.{statement}
-use Rattle.homes.proofs.holds.Tie as tie
+use Rattle.processes.proofs.holds.Statement.{statement}
+use Rattle.processes.proofs.holds.Tie as tie
 
 -- a hold stands in one of two sets
 hold-either : (s x : Bool) → either s x ≡ isHold (pick x (some Exclusive) (pick s (some Shared) none))

@@ -11,14 +11,14 @@ use Rattle.rules.specs.Answers as Answers
 use Rattle.rules.specs.Home as Home
 use Rattle.rules.specs.Determined.{Determined}
 use Rattle.rules.proofs.Determined.{by-equation}
-use Rattle.homes.specs.Tests as Tests
-use Rattle.homes.proofs.is_waiting as is-waiting
-use Rattle.homes.proofs.holds as holds
-use Rattle.homes.proofs.asking as asking
-use Rattle.homes.proofs.dropping as dropping
-use Rattle.homes.proofs.granted as granted
-use Rattle.homes.proofs.request_answer as request-answer
-use Rattle.homes.proofs.release_answer as release-answer
+use Rattle.processes.specs.Tests as Tests
+use Rattle.processes.proofs.is_waiting as is-waiting
+use Rattle.processes.proofs.holds as holds
+use Rattle.processes.proofs.asking as asking
+use Rattle.processes.proofs.dropping as dropping
+use Rattle.processes.proofs.granted as granted
+use Rattle.processes.proofs.request_answer as request-answer
+use Rattle.processes.proofs.release_answer as release-answer
 
 module _ {M : Type 1} (𝓤 : URA M) (H : Heap 𝓤) (A : Atoms 𝓤) (mem : Memory → SProp 𝓤) (run : Routine → Fun 𝓤) where
   pub is-waiting-determined : Determined is-waiting.ended (is-waiting.clauses 𝓤 H A mem run) (λ κs r e. r)

@@ -3,7 +3,7 @@ ghost use mathlib.Core.Path.{_≡_};
 ghost use Prim.Native.Nat.{_<_};
 ghost use Rattle.rules.specs.Answers as Answers;
 ghost use Rattle.rules.specs.Home as Home;
-ghost use Rattle.homes.specs.Tests as Tests;
+ghost use Rattle.processes.specs.Tests as Tests;
 use rules::Answer;
 use rules::Mode;
 use rules::Process;

@@ -1,7 +1,7 @@
 -- `dropping` meets its contract: the object leaves both sets.
 use borrow.Author.Needs.{needs}
-use Rattle.homes.proofs.dropping.Statement.{statement}
-use Rattle.homes.proofs.dropping.Tie as tie
+use Rattle.processes.proofs.dropping.Statement.{statement}
+use Rattle.processes.proofs.dropping.Tie as tie
 
 without-requires : tie.Need-without-requires
 without-requires c κs = search needs

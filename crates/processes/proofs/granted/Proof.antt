@@ -1,7 +1,7 @@
 -- `granted` meets its contract: the object stands in the set of its mode and not in the other.
 use borrow.Author.Needs.{needs}
-use Rattle.homes.proofs.granted.Statement.{statement}
-use Rattle.homes.proofs.granted.Tie as tie
+use Rattle.processes.proofs.granted.Statement.{statement}
+use Rattle.processes.proofs.granted.Tie as tie
 
 is-exclusive-requires : tie.Need-is-exclusive-requires
 is-exclusive-requires c κs = search needs

@@ -3,8 +3,8 @@ use mathlib.Core.Path.{sym, _∙_}
 use borrow.Author.Tests.{le-leb, lt-leb}
 use Rattle.rules.specs.Answers.{firstOf}
 use borrow.Author.Needs.{needs}
-use Rattle.homes.proofs.release_answer.Statement.{statement}
-use Rattle.homes.proofs.release_answer.Tie as tie
+use Rattle.processes.proofs.release_answer.Statement.{statement}
+use Rattle.processes.proofs.release_answer.Tie as tie
 
 returns : tie.Need-returns
 unfolding firstOf
