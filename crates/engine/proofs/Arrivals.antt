@@ -3,7 +3,7 @@ use mathlib.Core.Path.{_≡_, refl, sym, ap, _∙_}
 use mathlib.Core.Logic.{_≢_}
 use mathlib.Core.Bool.{Bool, true, false, _&&_}
 use mathlib.Core.List.{List}
-use Prim.Native.Nat.{ℕ, _+_, _<_}
+use Prim.Native.Nat.{ℕ, _+_}
 use native.Mathlib.Omega.{arith}
 use borrow.Author.Tests.{ne-eqb}
 use lib.Dec.{ltb}
@@ -19,17 +19,16 @@ use Rattle.rules.specs.declared.Object.{Object}
 use Rattle.rules.specs.declared.Ring.{Ring}
 use Rattle.rules.specs.declared.Board.{Board}
 use Rattle.rules.specs.Tables.{pick, among}
-use Rattle.rules.specs.Book.{placeIn, waitedFor, held, joined, welcome, struck, releaseArrives}
+use Rattle.rules.specs.Book.{placeIn, waitedFor, held, joined, welcome, struck, settled, releaseArrives}
 use Rattle.rules.specs.Home.{granted}
 use Rattle.rules.specs.Lists.{noEntries, nothing, toHome, starter, starterOf, askedOf, addAll, withNext, started, listAtHome, listAtObject, looking, alongLeads, ringOf, noRing, keeping, requestArrives, entryDone}
-use Rattle.rules.specs.Board.{processAt, objectAt, kindAt, listAt, ringAt, putProcess, putObject, putRing, freed, send}
+use Rattle.rules.specs.Board.{processAt, objectAt, kindAt, listAt, ringAt, putProcess, putObject, putRing, freed, send, sendGrants}
 use Rattle.rules.specs.Commands.{recording, delivered}
 use Rattle.rules.proofs.Tables.{true-not-false}
 use Rattle.rules.proofs.Lists.{addAll-grown, started-next, along-some}
 use Rattle.lists.specs.declared.Leg.{Leg}
 use Rattle.lists.specs.Onwards.{asksNext, onward, closes, askedWaitsFor, grown}
-use Rattle.engine.specs.Grants.{grantsLeft}
-use Rattle.engine.proofs.Granting.{grants-from}
+use Rattle.objects.specs.Fronts.{letIn}
 
 -- ---- a list that is sent where it has an entry to ask
 abbrev pub asking : Entries → Message
@@ -122,10 +121,10 @@ module _ (b : Board) (n : ℕ) (y : Board) (e : y ≡ freed b n) where
         let f : send (putObject y i new) (asking l) ≡ send (putObject y i new) (started p qs) = rw el (asks-started (putObject y i new) p qs) in
         f ∙ rw (k, ei, en, eo, e, z)
 
-  pub release-arrives : (p o : ℕ) → kindAt b n ≡ Release p o → (i : ℕ) (old new : Object) → i ≡ o → old ≡ objectAt b o → new ≡ struck old p → o < length (y .objects)
-      → grantsLeft (putObject y i new) i ≡ delivered b n
+  pub release-arrives : (p o : ℕ) → kindAt b n ≡ Release p o → (i : ℕ) (old new : Object) → i ≡ o → old ≡ objectAt b o → new ≡ struck old p
+      → sendGrants (putObject y i (letIn new)) i (settled (new .«line_count») new .grants) ≡ delivered b n
   unfolding delivered releaseArrives
-  release-arrives p o k i old new ei eo en h = rw (ei, en, eo) (grants-from y o (struck (objectAt b o) p) h ∙ rw (k, e))
+  release-arrives p o k i old new ei eo en = rw (k, ei, en, eo, e)
 
   module _ (l : Entries) (el : l ≡ listAt b n) where
     pub list-at-home : kindAt b n ≡ ListToHome → (p : ℕ) (book : Process) (r : Leg) → p ≡ askedOf l → book ≡ processAt b p → r ≡ onward (l .next) (l .count) (book .wait)

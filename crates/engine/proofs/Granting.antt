@@ -1,109 +1,73 @@
--- A release lets in one after another: one grant at a time, with the book on the board.
-use mathlib.Core.List.{[]}
+-- The grants of one release go to those at the first places of the line, in their order; each is sent under the lowest free number.
+use mathlib.Core.List.{List, [], _∷_}
 use mathlib.Core.Path.{_≡_, refl, sym, ap, _∙_}
-use mathlib.Core.Bool.{Bool, true, false, _&&_}
-use Prim.Native.Nat.{ℕ, zero, suc, _-_, _<_}
+use mathlib.Core.Bool.{true}
+use Prim.Native.Nat.{ℕ, zero, suc, _+_, _-_, _≤_, _<_}
+use native.Mathlib.Numerals.{add-one}
 use native.Mathlib.Omega.{arith}
-use borrow.Author.Tests.{lt-ltb, ltb-true}
-use lib.Dec.{ltb}
 use lib.ListN.{length}
-use lib.Seq.{set-getD, set-set, getD-set-same, lt-length-set}
 use Rattle.rules.specs.declared.Board.{Board}
+use Rattle.rules.specs.declared.Mode.{Mode}
 use Rattle.rules.specs.declared.Object.{Object}
 use Rattle.rules.specs.declared.Message.{Message}
+use Rattle.rules.specs.declared.Kind.{Kind}
 use Rattle.rules.specs.declared.Kind.the-variants.{Grant}
-use Rattle.rules.specs.Tables.{pick}
+use Rattle.rules.specs.declared.Entries.{Entries}
 use Rattle.rules.specs.Bits.{lowestFree}
-use Rattle.rules.specs.Book.{Settled, grantedFirst, whoAt, modeAt, frontClear, frontGranted, settled}
-use Rattle.rules.specs.Lists.{plain}
-use Rattle.rules.specs.Board.{noObject, objectAt, putObject, putMessage, isMessage, putFirst, send, sendGrants}
-use Rattle.rules.specs.Ranges.{LineRanged}
-use Rattle.rules.proofs.Tables.{both-left, both-right}
-use Rattle.engine.specs.Grants.{frontGoes, grantsLeft}
+use Rattle.rules.specs.Book.{whoAt, modeAt, held, frontClear, frontGranted, settled}
+use Rattle.rules.specs.Lists.{noEntries, plain}
+use Rattle.rules.specs.Board.{send, sendGrants}
+use Rattle.rules.proofs.Tables.{by-test}
+use Rattle.rules.proofs.Book.{front-left-who, front-left-mode, settled-count}
+use Rattle.rules.proofs.Load.{send-full}
+use Rattle.objects.specs.Fronts.{frontGoes, letIn}
+use Rattle.objects.proofs.Fronts.{let-in-goes, some-stand}
+use Rattle.engine.specs.Grants.{placesFrom}
 
--- ---- the line of one object
-settled-ends : (n : ℕ) (o : Object) → ltb 0 n && frontClear o ≡ false → settled n o ≡ record { object = o; grants = [] }
-unfolding settled
-settled-ends zero o e = refl
-settled-ends (suc n) o e = let f : frontClear o ≡ false = rw (lt-ltb 0 (suc n) (omega arith)) at e in rw (settled, f)
+-- ---- those let in
+-- once the front has left, each stands one place ahead
+places-on : (o : Object) (k n : ℕ) → placesFrom (frontGranted o) k n ≡ placesFrom o (suc k) n
+unfolding placesFrom
+places-on o k zero = refl
+places-on o k (suc n) =
+    let h = held o (whoAt o 0) (modeAt o 0) in
+    rw (front-left-who h k, front-left-mode h k) (ap (λ (l : List (ℕ × Mode)). (whoAt o (suc k), modeAt o (suc k)) ∷ l) (places-on o (suc k) n))
 
-settled-goes : (n : ℕ) (o : Object) → ltb 0 n && frontClear o ≡ true → settled n o ≡ grantedFirst (whoAt o 0, modeAt o 0) (settled (n - 1) (frontGranted o))
-unfolding settled
-settled-goes zero o e = absurd (omega (arith, ltb-true 0 0 (both-left (ltb 0 0) (frontClear o) e)))
-settled-goes (suc n) o e = let z : suc n - 1 ≡ n = omega arith in rw (settled, both-right (ltb 0 (suc n)) (frontClear o) e, z)
+settled-places : (n : ℕ) (o : Object) → settled n o .grants ≡ placesFrom o 0 (length (settled n o .grants))
+unfolding settled placesFrom
+settled-places zero o = refl
+settled-places (suc n) o = by-test (frontClear o)
+    (λ e. rw (settled, e) (ap (λ (l : List (ℕ × Mode)). (whoAt o 0, modeAt o 0) ∷ l) (settled-places n (frontGranted o) ∙ places-on o 0 (length (settled n (frontGranted o) .grants)))))
+    (λ e. rw (settled, e))
 
--- ---- a send does not look at the objects
-send-past : (b : Board) (o : ℕ) (x : Object) (m : Message) → send (putObject b o x) m ≡ putObject (send b m) o x
-unfolding send putFirst
-send-past b o x m = go (isMessage (m .kind)) (ltb (lowestFree (b .occupied)) 64)
-  where
-    go : (t u : Bool)
-        → pick t (pick u (putMessage (putObject b o x) (lowestFree (b .occupied)) m) (putObject b o x)) (putObject b o x)
-        ≡ putObject (pick t (pick u (putMessage b (lowestFree (b .occupied)) m) b) b) o x
-    go true true = refl
-    go true false = refl
-    go false u = refl
+-- the line falls by as many as are let in
+pub line-falls : (o : Object) → length (settled (o .«line_count») o .grants) + letIn o .«line_count» ≡ o .«line_count»
+line-falls o = settled-count (o .«line_count») o refl
 
-send-objects : (b : Board) (m : Message) → send b m .objects ≡ b .objects
-unfolding send putFirst
-send-objects b m = go (isMessage (m .kind)) (ltb (lowestFree (b .occupied)) 64)
-  where
-    go : (t u : Bool) → pick t (pick u (putMessage b (lowestFree (b .occupied)) m) b) b .objects ≡ b .objects
-    go true true = refl
-    go true false = refl
-    go false u = refl
+pub those-let-in : (o : Object) (n : ℕ) → n ≡ o .«line_count» - letIn o .«line_count» → settled (o .«line_count») o .grants ≡ placesFrom o 0 n
+those-let-in o n e = settled-places (o .«line_count») o ∙ ap (placesFrom o 0) (omega (arith, e, line-falls o))
 
--- the book just sent past is the book that stands there
-pub book-sent : (b : Board) (o : ℕ) (x : Object) (m : Message) → o < length (b .objects) → objectAt (send (putObject b o x) m) o ≡ x
-book-sent b o x m h = rw (send-objects (putObject b o x) m) (getD-set-same (b .objects) o x noObject h)
+pub one-let-in : (o : Object) → frontGoes o ≡ true → letIn o .«line_count» < o .«line_count»
+one-let-in o f = omega (arith, some-stand o f, line-falls (frontGranted o), ap (λ (x : Object). x .«line_count») (let-in-goes o f))
 
--- ---- the grants that are left
-abbrev letIn : Board → ℕ → Settled → Board
-letIn b o s = sendGrants (putObject b o (s .object)) o (s .grants)
+-- ---- what is sent to them
+pub grants-first : (b : Board) (o : ℕ) (line : Object) (k n m : ℕ) → n ≡ m + 1 → sendGrants b o (placesFrom line k n) ≡ sendGrants (send b (plain (Grant (whoAt line k) o (modeAt line k)))) o (placesFrom line (k + 1) m)
+unfolding sendGrants placesFrom
+grants-first b o line k n m e = rw (e, add-one m, add-one k)
 
-put-same : (b : Board) (o : ℕ) (x : Object) → objectAt b o ≡ x → putObject b o x ≡ b
-put-same b o x e = rw (← e, set-getD (b .objects) o noObject)
+-- the next is sent, and where the others lead stays the same
+pub grant-sent : (b : Board) (o : ℕ) (line : Object) (k n : ℕ) (last : Board) → sendGrants b o (placesFrom line k (n - k)) ≡ last → k < n
+    → (out : Kind) (none : Entries) → out ≡ Grant (whoAt line k) o (modeAt line k) → none ≡ noEntries
+    → (x : Board) → x ≡ send b (record { kind = out; list = none }) → sendGrants x o (placesFrom line (k + 1) (n - (k + 1))) ≡ last
+grant-sent b o line k n last e l out none eo ez x ex = rw (ex, eo, ez) (sym (grants-first b o line k (n - k) (n - (k + 1)) (omega arith)) ∙ e)
 
-pub grants-from : (b : Board) (o : ℕ) (x : Object) → o < length (b .objects) → grantsLeft (putObject b o x) o ≡ letIn b o (settled (x .«line_count») x)
-unfolding grantsLeft
-grants-from b o x h = rw (getD-set-same (b .objects) o x noObject h, set-set (b .objects) o x (settled (x .«line_count») x .object))
-
--- nobody is let in
-pub grants-end : (b : Board) (o : ℕ) (x : Object) → objectAt b o ≡ x → frontGoes x ≡ false → grantsLeft b o ≡ b
-unfolding grantsLeft sendGrants
-grants-end b o x z e = rw (z, settled-ends (x .«line_count») x e, ← z, set-getD (b .objects) o noObject)
-
--- the front is let in, and the rest is left
-pub grants-go : (b : Board) (o : ℕ) (x : Object) → o < length (b .objects) → frontGoes x ≡ true
-    → grantsLeft (putObject b o x) o ≡ grantsLeft (send (putObject b o (frontGranted x)) (plain (Grant (whoAt x 0) o (modeAt x 0)))) o
+-- no number is free: nothing is sent
+pub grants-full : (gs : List (ℕ × Mode)) (b : Board) (o : ℕ) → 64 ≤ lowestFree (b .occupied) → sendGrants b o gs ≡ b
 unfolding sendGrants
-grants-go b o x h e =
-    let m = plain (Grant (whoAt x 0) o (modeAt x 0)) in
-    let s = settled (x .«line_count» - 1) (frontGranted x) in
-    grants-from b o x h
-    ∙ rw (settled-goes (x .«line_count») x e) (ap (λ (y : Board). sendGrants y o (s .grants)) (send-past b o (s .object) m))
-    ∙ sym (grants-from (send b m) o (frontGranted x) (rw (send-objects b m) h))
-    ∙ ap (λ (y : Board). grantsLeft y o) (sym (send-past b o (frontGranted x) m))
+grants-full [] b o h = refl
+grants-full (g ∷ gs) b o h = let m : Message = plain (Grant (g .0) o (g .1)) in rw (send-full b m h) (grants-full gs b o h)
 
--- ---- the loop over the grants that are left: the book in hand is the one on the board
-pub record Letting (b₀ : Board) (o i : ℕ) (b : Board) (book : Object) : Type 0 where
-  pub index : i ≡ o
-  pub small : o < 16
-  pub inside : o < length (b .objects)
-  pub here : objectAt b o ≡ book
-  pub line : LineRanged book
-  pub left : grantsLeft b o ≡ grantsLeft b₀ o
-
--- one more is let in
-pub letting-on : (b₀ : Board) (o i : ℕ) (b : Board) (book : Object) → Letting b₀ o i b book → frontGoes book ≡ true → (next : Object) → next ≡ frontGranted book → LineRanged next
-    → (x : Board) → x ≡ send (putObject b o next) (plain (Grant (whoAt book 0) o (modeAt book 0))) → Letting b₀ o i x next
-letting-on b₀ o i b book v f next en r x e =
-    let m = plain (Grant (whoAt book 0) o (modeAt book 0)) in
-    record {
-      index = v .index;
-      small = v .small;
-      inside = rw (e, send-objects (putObject b o next) m) (lt-length-set (b .objects) o next (v .inside));
-      here = rw e (book-sent b o next m (v .inside));
-      line = r;
-      left = rw (e, en) (sym (grants-go b o book (v .inside) f)) ∙ ap (λ (y : Board). grantsLeft y o) (put-same b o book (v .here)) ∙ v .left;
-    }
+-- nobody is left: nothing is sent
+pub grants-over : (b : Board) (o : ℕ) (line : Object) (k n : ℕ) → n ≡ 0 → sendGrants b o (placesFrom line k n) ≡ b
+unfolding sendGrants placesFrom
+grants-over b o line k n e = rw e

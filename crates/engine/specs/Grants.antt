@@ -1,24 +1,11 @@
--- What is left of a release once the holder is struck: the front of the line is granted while it conflicts with no holder.
-use mathlib.Core.Bool.{Bool, _&&_}
-use Prim.Native.Nat.{ℕ, _<_}
-use lib.Dec.{ltb}
-use lib.ListN.{length}
-use Rattle.rules.specs.declared.Board.{Board}
+-- Whom a release lets in, place by place of the line.
+use Prim.Native.Nat.{ℕ, zero, suc}
+use mathlib.Core.List.{List, [], _∷_}
+use Rattle.rules.specs.declared.Mode.{Mode}
 use Rattle.rules.specs.declared.Object.{Object}
-use Rattle.rules.specs.Book.{frontClear, settled}
-use Rattle.rules.specs.Ranges.{LineRanged}
-use Rattle.rules.specs.Board.{objectAt, putObject, sendGrants}
+use Rattle.rules.specs.Book.{whoAt, modeAt}
 
--- there is a front, and it conflicts with no holder
-abbrev pub frontGoes : Object → Bool
-frontGoes o = ltb 0 (o .«line_count») && frontClear o
-
--- the line of object o on the board, granted from the front
-unfoldable pub grantsLeft : Board → ℕ → Board
-grantsLeft b o = let s = settled (objectAt b o .«line_count») (objectAt b o) in sendGrants (putObject b o (s .object)) o (s .grants)
-
--- object o has a book on the board, with a ranged line
-pub record LineAt (b : Board) (o : ℕ) : Type 0 where
-  pub small : o < 16
-  pub inside : o < length (b .objects)
-  pub line : LineRanged (objectAt b o)
+-- those at n places of the line, from place k on, with their modes
+unfoldable pub placesFrom : Object → ℕ → ℕ → List (ℕ × Mode)
+placesFrom o k zero = []
+placesFrom o k (suc n) = (whoAt o k, modeAt o k) ∷ placesFrom o (suc k) n

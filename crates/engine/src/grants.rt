@@ -1,56 +1,47 @@
-// A release lets in the front of the line, one after another.
+// A release lets in the front of the line, one after another: a grant goes to each.
 ghost use mathlib.Core.Path.{_≡_};
+ghost use Prim.Native.Nat.{_-_, _≤_, _<_};
+ghost use Rattle.rules.specs.Board.{sendGrants};
 ghost use Rattle.rules.specs.Book as Book;
 ghost use Rattle.rules.specs.declared.Kind.the-variants as Kinds;
-ghost use Rattle.rules.specs.Ranges.{LineRanged};
-ghost use Rattle.engine.specs.Grants.{frontGoes, grantsLeft, LineAt};
+ghost use Rattle.engine.specs.Grants.{placesFrom};
 use rules::Board;
 use rules::Flight;
 use rules::Kind;
 use rules::Object;
 use values::bits::wide;
 
-// There is a front, and it conflicts with no holder.
-pub fn front_goes(o: Object) -> bool
-    requires { ⌜ LineRanged o ⌝ }
-    ensures { λ r. ⌜ r ≡ frontGoes o ⌝ }
+// The grant to the one at place `k` of a line of object `o`.
+pub fn grant_at(line: Object, k: u8, o: u8) -> Kind
+    requires { ⌜ k < 16 ⌝ }
+    ensures { λ r. ⌜ r ≡ Kinds.Grant (Book.whoAt line k) o (Book.modeAt line k) ⌝ }
 {
-    if o.line_count == 0 {
-        return false;
-    }
-    objects::front_clear(o)
+    let places = line.line;
+    let at = wide(k);
+    Kind::Grant(places[at], o, objects::mode_at(line, k))
 }
 
-// The grant that is sent to the front of the line of object `o`.
-pub fn front_grant(book: Object, o: u8) -> Kind
-    ensures { λ r. ⌜ r ≡ Kinds.Grant (Book.whoAt book 0) o (Book.modeAt book 0) ⌝ }
-{
-    Kind::Grant(book.line[0], o, objects::mode_at(book, 0))
-}
-
-// The grants after the first, each under the lowest free number. It is handed the whole board, since it sends, and reads and writes the
-// book of this object alone; a release that lets in more than one is seldom, so the loop of the engine does not carry it.
-pub fn grant_rest(start: Board, o: u8) -> Board
-    requires { ⌜ LineAt start o ⌝ }
-    ensures { λ r. ⌜ r ≡ grantsLeft start o ⌝ }
+// The grants of a release after the first, to those next in the line as it stood, each under the lowest free number while there is
+// one. It sends and reads no book of the board. Several let in by one release are seldom, so the loop of the engine does not carry it.
+pub fn grant_rest(start: Board, line: Object, o: u8, granted: u8) -> Board
+    requires { ⌜ granted ≤ 16 ⌝ }
+    ensures { λ r. ⌜ r ≡ sendGrants start o (placesFrom line 1 (granted - 1)) ⌝ }
 {
     let mut b = start;
-    let oi = wide(o);
     let none = values::message::no_entries();
-    let mut book = b.objects[oi];
-    while front_goes(book) {
-        let flight = Flight {
-            kind: front_grant(book, o),
-        };
-        book = objects::front_granted(book);
-        b.objects[oi] = book;
+    let mut k: u8 = 1;
+    while k < granted {
         let to = values::bits::lowest_free(b.occupied);
         if 64 <= to {
-            continue;
+            break;
         }
+        let flight = Flight {
+            kind: grant_at(line, k, o),
+        };
         b.flights[to] = flight;
         b.lists[to] = none;
         b.occupied = values::bits::with(b.occupied, to as u8);
+        k += 1;
     }
     b
 }

@@ -131,22 +131,23 @@ pub fn turns(start: Board, s: &[u8], lowest: bool, most: usize, room: &mut [u8])
                     Kind::Release(q, x) => {
                         let xi = wide(x);
                         let struck = objects::strike(b.objects[xi], q);
-                        if !crate::grants::front_goes(struck) {
+                        if !objects::front_goes(struck) {
                             b.objects[xi] = struck;
                             continue;
                         }
-                        let book = objects::front_granted(struck);
+                        let book = objects::let_in(struck);
                         b.objects[xi] = book;
                         let flight = Flight {
-                            kind: crate::grants::front_grant(struck, x),
+                            kind: crate::grants::grant_at(struck, 0, x),
                         };
                         b.flights[to] = flight;
                         b.lists[to] = none;
                         b.occupied = values::bits::with(b.occupied, to as u8);
-                        if !crate::grants::front_goes(book) {
+                        let granted = struck.line_count - book.line_count;
+                        if granted == 1 {
                             continue;
                         }
-                        b = crate::grants::grant_rest(b, x);
+                        b = crate::grants::grant_rest(b, struck, x, granted);
                         weight = counts::load(b);
                         continue;
                     }

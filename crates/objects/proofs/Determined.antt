@@ -11,6 +11,7 @@ use Rattle.rules.specs.Book as Book
 use Rattle.rules.specs.Determined.{Determined}
 use Rattle.rules.proofs.Bits.{set-ext-all}
 use Rattle.rules.proofs.Determined.{by-fact, by-equation}
+use Rattle.objects.specs.Fronts as Fronts
 use Rattle.objects.specs.Sets.{SetOf}
 use Rattle.objects.proofs.rivals as rivals
 use Rattle.objects.proofs.is_clear as is-clear
@@ -21,6 +22,8 @@ use Rattle.objects.proofs.join as join
 use Rattle.objects.proofs.is_welcome as is-welcome
 use Rattle.objects.proofs.front_clear as front-clear
 use Rattle.objects.proofs.front_granted as front-granted
+use Rattle.objects.proofs.front_goes as front-goes
+use Rattle.objects.proofs.let_in as let-in
 
 module _ {M : Type 1} (𝓤 : URA M) (H : Heap 𝓤) (A : Atoms 𝓤) (mem : Memory → SProp 𝓤) (run : Routine → Fun 𝓤) where
   pub rivals-determined : Determined rivals.ended (rivals.clauses 𝓤 H A mem run) (λ κs r e. r)
@@ -49,3 +52,9 @@ module _ {M : Type 1} (𝓤 : URA M) (H : Heap 𝓤) (A : Atoms 𝓤) (mem : Mem
 
   pub front-granted-determined : Determined front-granted.ended (front-granted.clauses 𝓤 H A mem run) (λ κs r e. r)
   front-granted-determined = by-equation (λ κs a. Book.frontGranted (a .0)) (λ κs a g r e. refl)
+
+  pub front-goes-determined : Determined front-goes.ended (front-goes.clauses 𝓤 H A mem run) (λ κs r e. r)
+  front-goes-determined = by-equation (λ κs a. Fronts.frontGoes (a .0)) (λ κs a g r e. refl)
+
+  pub let-in-determined : Determined let-in.ended (let-in.clauses 𝓤 H A mem run) (λ κs r e. r)
+  let-in-determined = by-equation (λ κs a. Fronts.letIn (a .0)) (λ κs a g r e. refl)

@@ -5,6 +5,7 @@ ghost use mathlib.Core.List.{[], _∷_, _++_};
 ghost use lib.ListN.{drop};
 ghost use Rattle.rules.specs.Book as Book;
 ghost use Rattle.rules.specs.Ranges.{LineRanged};
+ghost use Rattle.objects.specs.Fronts as Fronts;
 ghost use Rattle.objects.specs.Sets.{SetOf};
 use rules::Mode;
 use rules::Object;
@@ -85,10 +86,10 @@ pub fn is_welcome(o: Object, p: u8, m: Mode) -> bool
     requires { ⌜ p < 16 ⌝ }
     ensures { λ r. ⌜ r ≡ Book.welcome o p m ⌝ }
 {
-    if o.line_count != 0 {
-        return false;
+    if o.line_count == 0 {
+        return is_clear(o, p, m);
     }
-    is_clear(o, p, m)
+    false
 }
 
 // The front of the line conflicts with no holder.
@@ -137,4 +138,27 @@ pub fn front_granted(o: Object) -> Object
         line_exclusive: o.line_exclusive >> 1,
         line_count: one_less(o.line_count),
     }
+}
+
+// There is a front, and it conflicts with no holder.
+pub fn front_goes(o: Object) -> bool
+    requires { ⌜ LineRanged o ⌝ }
+    ensures { λ r. ⌜ r ≡ Fronts.frontGoes o ⌝ }
+{
+    if o.line_count == 0 {
+        return false;
+    }
+    front_clear(o)
+}
+
+// The front is let in, one after another, while it conflicts with no holder.
+pub fn let_in(o: Object) -> Object
+    requires { ⌜ LineRanged o ⌝ }
+    ensures { λ r. ⌜ r ≡ Fronts.letIn o ⌝ }
+{
+    let mut book = o;
+    while front_goes(book) {
+        book = front_granted(book);
+    }
+    book
 }

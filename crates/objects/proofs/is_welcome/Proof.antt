@@ -6,16 +6,16 @@ use borrow.Author.Needs.{needs}
 use Rattle.objects.proofs.is_welcome.Statement.{statement}
 use Rattle.objects.proofs.is_welcome.Tie as tie
 
-returns : tie.Need-returns
-unfolding welcome
-returns c = rw (ne-eqb _ _ (c .if1 .taken))
-
 is-clear-requires : tie.Need-is-clear-requires
 is-clear-requires c κs = search needs
 
+returns : tie.Need-returns
+unfolding welcome
+returns c = c .is-clear .ensures ∙ rw (eq-eqb _ _ (c .before .if1 .taken))
+
 returns-2 : tie.Need-returns-2
 unfolding welcome
-returns-2 c = c .is-clear .ensures ∙ rw (eq-eqb _ _ (c .before .if1 .left))
+returns-2 c = rw (ne-eqb _ _ (c .if1 .left))
 
 pub is-welcome-spec : {M : Type 1} → statement M
-is-welcome-spec = tie.close (tie.spec returns is-clear-requires returns-2)
+is-welcome-spec = tie.close (tie.spec is-clear-requires returns returns-2)

@@ -1,24 +1,26 @@
 -- A release arrives at its object: the holder is struck, and the front of the line is let in while it conflicts with no holder.
 use mathlib.Core.Path.{_≡_, refl, sym, ap, _∙_}
+use mathlib.Core.Bool.{true}
 use mathlib.Core.List.{[]}
-use Prim.Native.Nat.{_<_}
+use Prim.Native.Nat.{_-_, _<_}
 use native.Mathlib.Omega.{arith}
 use borrow.Author.Needs.{needs}
 use borrow.Author.Tests.{not-true, not-false}
 use lib.ListN.{getD, set}
 use Rattle.rules.specs.declared.Board.{Board}
 use Rattle.rules.specs.declared.Object.{Object}
-use Rattle.rules.specs.Book.{struck}
-use Rattle.rules.specs.Board.{with, noObject, objectAt, putObject}
+use Rattle.rules.specs.Book.{struck, settled}
+use Rattle.rules.specs.Board.{with, noObject, objectAt, putObject, sendGrants}
 use Rattle.rules.specs.Commands.{delivered}
 use Rattle.rules.specs.Ranges.{LineRanged}
-use Rattle.engine.specs.Grants.{grantsLeft}
+use Rattle.objects.specs.Fronts.{frontGoes, letIn}
 use Rattle.engine.proofs.Sends.{read-at}
 use Rattle.engine.proofs.Arrivals.{release-arrives}
-use Rattle.engine.proofs.Releases.{line-is, struck-line, granted-line, none-granted, LetIn, first-granted}
+use Rattle.engine.proofs.Granting.{one-let-in}
+use Rattle.engine.proofs.Releases.{line-is, struck-line, none-granted, LetIn, first-granted}
 use Rattle.engine.proofs.turns.Tie as tie
 use Rattle.engine.proofs.turns.Proof.Loop.{Inv-loop, μ-loop, ready, less, again}
-use Rattle.engine.proofs.turns.Proof.Takes.{Took, turnTook, before, numOf, toOf, noneOf, freedNow, weightLeft, kind-is, kind-ranged, freed-is, freed-matched, freed-flights, weight-left, to-small, taking}
+use Rattle.engine.proofs.turns.Proof.Takes.{Took, turnTook, before, numOf, toOf, noneOf, none-is, freedNow, weightLeft, kind-is, kind-ranged, freed-is, freed-matched, freed-flights, weight-left, to-small, taking}
 
 pub enum-known-sort-3 : tie.Need-enum-known-sort-3 Inv-loop μ-loop
 enum-known-sort-3 c = search needs
@@ -70,10 +72,10 @@ struck-ranged d = line-is (d .strike .result) (struck (oldOf d) (d .before .befo
 same-count : (d : Struck) → d .strike .result .«line_count» ≡ objectAt (freedNow (tookStruck d)) (d .before .before .wide7 .result) .«line_count»
 same-count d = ap (λ (o : Object). o .«line_count») (d .strike .ensures) ∙ ap (λ (o : Object). o .«line_count») (old-here d)
 
-arrives : (d : Struck) → grantsLeft (putObject (freedNow (tookStruck d)) (d .before .before .wide7 .result) (d .strike .result)) (d .before .before .wide7 .result) ≡ delivered (before (tookStruck d)) (numOf (tookStruck d))
+arrives : (d : Struck) → sendGrants (putObject (freedNow (tookStruck d)) (d .before .before .wide7 .result) (letIn (d .strike .result))) (d .before .before .wide7 .result) (settled (d .strike .result .«line_count») (d .strike .result) .grants) ≡ delivered (before (tookStruck d)) (numOf (tookStruck d))
 arrives d =
     let t = d .before .before .before .before .before .before in
-    release-arrives (before t) (numOf t) (freedNow t) (freed-is t) (d .before .before .before .before .sort3 .given .0 .0) (d .before .before .before .before .sort3 .given .0 .1 .0) (kind-is t _ (d .before .before .before .before .sort3 .given .1)) (d .before .before .wide7 .result) (oldOf d) (d .strike .result) (d .before .before .wide7 .ensures .0) (old-is d) (d .strike .ensures) (omega (arith, ready (turnTook t) .ranged .objects, ranged (d .before .before .before) .1))
+    release-arrives (before t) (numOf t) (freedNow t) (freed-is t) (d .before .before .before .before .sort3 .given .0 .0) (d .before .before .before .before .sort3 .given .0 .1 .0) (kind-is t _ (d .before .before .before .before .sort3 .given .1)) (d .before .before .wide7 .result) (oldOf d) (d .strike .result) (d .before .before .wide7 .ensures .0) (old-is d) (d .strike .ensures)
 
 pub front-goes-requires : tie.Need-front-goes-requires Inv-loop μ-loop
 front-goes-requires c κs = struck-ranged (c)
@@ -95,9 +97,9 @@ loop-again-10 c =
     again (turnTook t) 0 (delivered (before t) (numOf t)) (taking t) _ (weightLeft t)
     (none-granted (freedNow t) (weightLeft t) (weight-left t) (d .before .before .wide7 .result) (index-small d) (ready (turnTook t) .ranged .objects) (d .strike .result) (same-count d) (delivered (before t) (numOf t)) (arrives d) (sym (c .before .front-goes .ensures) ∙ not-true _ (c .if8 .taken)))
 
--- ---- the front is let in
-pub front-granted-requires : tie.Need-front-granted-requires Inv-loop μ-loop
-front-granted-requires c κs = struck-ranged (c .before .before)
+-- ---- all go in who can
+pub let-in-requires : tie.Need-let-in-requires Inv-loop μ-loop
+let-in-requires c κs = struck-ranged (c .before .before)
 
 pub mul-book-2 : tie.Need-mul-book-2 Inv-loop μ-loop
 mul-book-2 c = search needs
@@ -105,8 +107,8 @@ mul-book-2 c = search needs
 pub element-set-from-book : tie.Need-element-set-from-book Inv-loop μ-loop
 element-set-from-book c = omega (arith, index-small (c .before .before .before))
 
-pub front-grant-requires : tie.Need-front-grant-requires Inv-loop μ-loop
-front-grant-requires c κs = search needs
+pub grant-at-requires : tie.Need-grant-at-requires Inv-loop μ-loop
+grant-at-requires c κs = search needs
 
 pub mul-flight-4 : tie.Need-mul-flight-4 Inv-loop μ-loop
 mul-flight-4 c = search needs
@@ -126,58 +128,58 @@ cast-with-4 c = search needs
 pub with-requires-4 : tie.Need-with-requires-4 Inv-loop μ-loop
 with-requires-4 c κs = omega (arith, to-small (c .before .before .before .before .before .before .before .before .before .before))
 
--- its grant is on its way
+-- the first grant is on its way
 abbrev First : Type 0
 First = tie.After-with4 Inv-loop μ-loop
 
-next-ranged : (g : First) → LineRanged (g .before .before .front-granted .result)
-next-ranged g = line-is (g .before .before .front-granted .result) _ (g .before .before .front-granted .ensures) (granted-line (g .before .before .before .before .before .strike .result) (struck-ranged (g .before .before .before .before .before)))
-
 abbrev tookFirst : First → Took
 tookFirst g = g .before .before .before .before .before .before .before .before .before .before .before
+
+goes : (g : First) → frontGoes (g .before .before .before .before .before .strike .result) ≡ true
+goes g = sym (g .before .before .before .before .front-goes .ensures) ∙ not-false _ (g .before .before .before .if8 .left)
+
+pub sub-granted : tie.Need-sub-granted Inv-loop μ-loop
+sub-granted c =
+    let g = c .before .before in
+    omega (arith, one-let-in (g .before .before .before .before .before .strike .result) (goes g), ap (λ (o : Object). o .«line_count») (g .before .before .let-in .ensures))
 
 abbrev granted : First → Board
 granted g =
     let t = g .before .before .before .before .before .before .before .before .before .before .before in
     let y = freedNow t in
-    with y (y .processes) (set (y .objects) (g .before .before .before .before .before .before .before .wide7 .result) (g .before .before .front-granted .result)) (g .with4 .result) (set (y .flights) (toOf t) (record { kind = g .before .front-grant .result })) (set (y .lists) (toOf t) (noneOf t)) (y .rings)
+    with y (y .processes) (set (y .objects) (g .before .before .before .before .before .before .before .wide7 .result) (g .before .before .let-in .result)) (g .with4 .result) (set (y .flights) (toOf t) (record { kind = g .before .grant-at .result })) (set (y .lists) (toOf t) (noneOf t)) (y .rings)
 
-first : (g : First) → LetIn (granted g) (weightLeft (tookFirst g)) (g .before .before .before .before .before .before .before .before .before .sort3 .given .0 .1 .0) (g .before .before .front-granted .result) (delivered (before (tookFirst g)) (numOf (tookFirst g)))
+first : (g : First) → LetIn (granted g) (weightLeft (tookFirst g)) (g .before .before .before .before .before .before .before .before .before .sort3 .given .0 .1 .0) (g .before .before .before .before .before .strike .result) (g .before .before .before .before .before .strike .result .«line_count» - g .before .before .let-in .result .«line_count») (delivered (before (tookFirst g)) (numOf (tookFirst g)))
 first g =
     let d = g .before .before .before .before .before in
     let t = g .before .before .before .before .before .before .before .before .before .before .before in
     first-granted (freedNow t) (weightLeft t) (weight-left t) (d .before .before .wide7 .result) (index-small d) (ready (turnTook t) .ranged .objects) (d .strike .result) (same-count d) (delivered (before t) (numOf t)) (arrives d)
-    (sym (g .before .before .before .before .front-goes .ensures) ∙ not-false _ (g .before .before .before .if8 .left)) (d .before .before .before .before .sort3 .given .0 .1 .0) (d .before .before .wide7 .ensures .0) (g .before .before .front-granted .result) (g .before .before .front-granted .ensures) (g .before .front-grant .result) (g .before .front-grant .ensures) (noneOf t) (t .before .before .before .before .before .before .before .before .before .before .before .before .before .before .before .before .before .no-entries .ensures)
+    (goes g) (d .before .before .before .before .sort3 .given .0 .1 .0) (d .before .before .wide7 .ensures .0) (g .before .before .let-in .result) (g .before .before .let-in .ensures) (g .before .grant-at .result) (g .before .grant-at .ensures) (noneOf t) (none-is t)
     (freed-flights t) (freed-matched t) (toOf t) (g .with4 .result) (t .lowest-free2 .ensures .0) (g .with4 .ensures) (to-small t)
 
-pub front-goes-requires-2 : tie.Need-front-goes-requires-2 Inv-loop μ-loop
-front-goes-requires-2 c κs = next-ranged (c)
-
+-- it is the only one
 pub loop-less-11 : tie.Need-loop-less-11 Inv-loop μ-loop
-loop-less-11 c = less (c .before .before .before .before .before .before .before .before .before .before .before .before .before .before .before .before .before .before .before .before .before .before)
+loop-less-11 c = less (turnTook (tookFirst (c .before .before .before)))
 
 pub loop-again-11 : tie.Need-loop-again-11 Inv-loop μ-loop
 loop-again-11 c =
-    let g = c .before .before in
-    let t = c .before .before .before .before .before .before .before .before .before .before .before .before .before in
-    again (turnTook t) 0 (delivered (before t) (numOf t)) (taking t) _ (weightLeft t)
-    (first g .ends (sym (c .before .front-goes2 .ensures) ∙ not-true _ (c .if9 .taken)))
+    let g = c .before .before .before in
+    let t = tookFirst g in
+    again (turnTook t) 0 (delivered (before t) (numOf t)) (taking t) _ (weightLeft t) (first g .ends (c .if9 .taken))
 
--- ---- and the next after it, on the whole board
+-- the others are sent theirs
 pub grant-rest-requires : tie.Need-grant-rest-requires Inv-loop μ-loop
-grant-rest-requires c κs =
-    let g = c .before .before in
-    first g .line (next-ranged g)
+grant-rest-requires c κs = omega (arith, struck-ranged (c .before .before .before .before .before .before .before .before) .count)
 
 pub load-requires-2 : tie.Need-load-requires-2 Inv-loop μ-loop
 load-requires-2 c κs = search needs
 
 pub loop-less-12 : tie.Need-loop-less-12 Inv-loop μ-loop
-loop-less-12 c = less (c .before .before .before .before .before .before .before .before .before .before .before .before .before .before .before .before .before .before .before .before .before .before .before .before)
+loop-less-12 c = less (turnTook (tookFirst (c .before .before .before .before .before)))
 
 pub loop-again-12 : tie.Need-loop-again-12 Inv-loop μ-loop
 loop-again-12 c =
-    let g = c .before .before .before .before in
-    let t = c .before .before .before .before .before .before .before .before .before .before .before .before .before .before .before in
+    let g = c .before .before .before .before .before in
+    let t = tookFirst g in
     again (turnTook t) 0 (delivered (before t) (numOf t)) (taking t) (c .before .grant-rest .result) (c .load2 .result)
     (first g .goes (c .before .grant-rest .result) (c .load2 .result) (c .before .grant-rest .ensures) (c .load2 .ensures .0))

@@ -1,10 +1,10 @@
--- `engine::grants::front_goes` meets its contract. Assumes nothing.
+-- `objects::front_goes` meets its contract. Assumes nothing.
 use Prim.Native.Nat.{_<_}
 use native.Mathlib.Omega.{arith}
 use borrow.Author.Tests.{lt-ltb}
 use borrow.Author.Needs.{needs}
-use Rattle.engine.proofs.grants.front_goes.Statement.{statement}
-use Rattle.engine.proofs.grants.front_goes.Tie as tie
+use Rattle.objects.proofs.front_goes.Statement.{statement}
+use Rattle.objects.proofs.front_goes.Tie as tie
 
 returns : tie.Need-returns
 returns c = rw (c .if1 .taken)
