@@ -1,5 +1,5 @@
 -- The public calls: the shape first, then the rule.
-use mathlib.Core.Path.{_≡_, sym, ap, _∙_}
+use mathlib.Core.Path.{_≡_, refl, sym, ap, _∙_}
 use mathlib.Core.Logic.{_≢_}
 use mathlib.Core.Bool.{true, false}
 use mathlib.Core.List.{List}
@@ -8,14 +8,16 @@ use borrow.Author.Tests.{ne-eqb, lt-ltb, le-ltb}
 use lib.ListN.{length}
 use Rattle.rules.specs.declared.Board.{Board}
 use Rattle.rules.specs.declared.Command.{Command}
+use Rattle.rules.specs.declared.Answer.{Answer}
 use Rattle.rules.specs.declared.Answer.the-variants.{Done, OutOfShape, OddByte, RoomTooShort}
 use Rattle.rules.specs.declared.Stepped.{Stepped}
 use Rattle.rules.specs.declared.Drained.{Drained}
 use Rattle.rules.specs.Answers.{number, firstOf}
-use Rattle.rules.specs.Commands.{turn, draining, zeroBoard, opening}
+use Rattle.rules.specs.Commands.{turn, draining, zeroBoard, emptyBoard, homesOf, openingTests, opening}
 use Rattle.rules.specs.Shape.{inShape, step, drain}
 use Rattle.rules.specs.Sheet.{refusedRun, wholeRun, run, runOpening}
 use Rattle.laws.proofs.Opening.{opening-in-shape}
+use Rattle.opening.proofs.Opened.{opening-refused, opening-taken}
 use Rattle.values.specs.Numbers.{answerOf}
 use Rattle.values.proofs.Numbers.{answer-back}
 use Rattle.engine.specs.Ready.{Ready}
@@ -51,31 +53,39 @@ module _ (b : Board) (s room : List ℕ) where
       run-whole g = rw (e, ne-eqb (length s % 2) 1 f, le-ltb (length room) (length s / 2) g)
 
 -- ---- an opening and its commands
-module _ (n p o : ℕ) (hp ho : List ℕ) (r : Stepped) (e : r ≡ opening n p o hp ho) (k : ℕ) (g : k ≡ number (r .answer)) (s room : List ℕ) where
-  pub opening-ends : k ≢ 0 → runOpening n p o hp ho s room ≡ refusedRun (r .answer) (r .board) room
-  unfolding runOpening opening firstOf
-  opening-ends h = let z = ne-eqb (number (opening n p o hp ho .answer)) 0 (λ z. h (g ∙ rw e z)) in rw (e, z, z)
+module _ (n p o : ℕ) (hp ho : List ℕ) (a : Answer) (e : a ≡ firstOf (openingTests n p o hp ho)) (k : ℕ) (g : k ≡ number a) (s room : List ℕ) where
+  pub opening-ends : k ≢ 0 → runOpening n p o hp ho s room ≡ refusedRun a zeroBoard room
+  unfolding runOpening firstOf
+  opening-ends h = let z = ne-eqb (number a) 0 (λ q. h (g ∙ q)) in rw (← opening-refused n p o hp ho a e k g h zeroBoard refl, z, z)
 
   module _ (h : k ≡ 0) where
-    opened : r .answer ≡ Done
-    unfolding answerOf
-    opened = sym (answer-back (r .answer)) ∙ ap answerOf (sym g ∙ h)
+    abbrev start : Board
+    start = emptyBoard n p o (homesOf p hp) (homesOf o ho)
 
-    pub opening-ready : Ready (r .board)
-    opening-ready = shape-ready (r .board) (rw e (opening-in-shape .sized n p o hp ho)) (rw e (opening-in-shape .inShape n p o hp ho (rw (← e) opened)))
+    done : a ≡ Done
+    unfolding answerOf
+    done = sym (answer-back a) ∙ ap answerOf (sym g ∙ h)
+
+    opened : opening n p o hp ho ≡ record { answer = Done; board = start }
+    opened = sym (opening-taken n p o hp ho a e k g h start refl) ∙ rw done
+
+    pub opening-ready : (b : Board) → b ≡ start → Ready b
+    opening-ready b f =
+        let q : b ≡ opening n p o hp ho .board = f ∙ ap (λ (r : Stepped). r .board) (sym opened) in
+        shape-ready b (rw q (opening-in-shape .sized n p o hp ho)) (rw q (opening-in-shape .inShape n p o hp ho (ap (λ (r : Stepped). r .answer) opened)))
 
     pub opening-odd : length s % 2 ≡ 1 → runOpening n p o hp ho s room ≡ refusedRun OddByte zeroBoard room
     unfolding runOpening firstOf
-    opening-odd f = rw (← e, opened, f)
+    opening-odd f = rw (opened, f)
 
     module _ (f : length s % 2 ≢ 1) where
       pub opening-short : length room < length s / 2 → runOpening n p o hp ho s room ≡ refusedRun RoomTooShort zeroBoard room
       unfolding runOpening firstOf
-      opening-short l = rw (← e, opened, ne-eqb (length s % 2) 1 f, lt-ltb (length room) (length s / 2) l)
+      opening-short l = rw (opened, ne-eqb (length s % 2) 1 f, lt-ltb (length room) (length s / 2) l)
 
-      pub opening-whole : length s / 2 ≤ length room → runOpening n p o hp ho s room ≡ wholeRun (r .board) s room (length s / 2)
+      pub opening-whole : (b : Board) → b ≡ start → length s / 2 ≤ length room → runOpening n p o hp ho s room ≡ wholeRun b s room (length s / 2)
       unfolding runOpening firstOf
-      opening-whole l = rw (← e, opened, ne-eqb (length s % 2) 1 f, le-ltb (length room) (length s / 2) l)
+      opening-whole b q l = rw (q, opened, ne-eqb (length s % 2) 1 f, le-ltb (length room) (length s / 2) l)
 
 -- ---- the drain
 pub drain-refused : (b : Board) (n : ℕ) → inShape b ≡ false → _≡_ {A = Drained} (record { answer = OutOfShape; made = 0; board = b }) (drain b n)

@@ -95,10 +95,9 @@ pub fn run_opening(
     ensures { λ r. ⌜ (r ≡ Sheet.runOpening nodes processes objects «process_home» «object_home» (now (s .entry)) (now (room .entry)) .ran)
         × (now (room .exit) ≡ Sheet.runOpening nodes processes objects «process_home» «object_home» (now (s .entry)) (now (room .entry)) .room) ⌝ }
 {
-    let opened = opening::open(nodes, processes, objects, process_home, object_home);
-    let answer = opened.answer;
+    let answer = opening::answer(nodes, processes, objects, process_home, object_home);
     if values::answer::number(answer) != 0 {
-        return refused(answer, opened.board);
+        return refused(answer, opening::zero_board());
     }
     if s.len() % 2 == 1 {
         return refused(Answer::OddByte, opening::zero_board());
@@ -107,7 +106,8 @@ pub fn run_opening(
     if room.len() < n {
         return refused(Answer::RoomTooShort, opening::zero_board());
     }
-    engine::turns(opened.board, s, false, n, room)
+    let start = opening::board(nodes, processes, objects, process_home, object_home);
+    engine::turns(start, s, false, n, room)
 }
 
 // The lowest-numbered message arrives, again and again, until none is left or the budget is used.

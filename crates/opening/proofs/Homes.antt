@@ -22,16 +22,8 @@ use Rattle.rules.proofs.Tables.{rows-at, rows-length, both, both-right}
 pub count-most : (n top : ℕ) → countFits n top ≡ true → n ≤ top
 count-most n top e = leb-true n top (both-right (ltb 0 n) (leb n top) e)
 
--- an opening that is not refused has counts within their limits
-pub counts-fit : (n p o : ℕ) (hp ho : List ℕ) → number (firstOf (openingTests n p o hp ho)) ≡ 0 → (p ≤ 16) × (o ≤ 16)
-unfolding firstOf
-counts-fit n p o hp ho e = let f = go (countFits n 8) (countFits p 16) (countFits o 16) _ e in (count-most p 16 (f .0), count-most o 16 (f .1))
-  where
-    go : (t u v : Bool) (a : Answer) → number (pick (not t) CountOutside (pick (not u) CountOutside (pick (not v) CountOutside a))) ≡ 0 → (u ≡ true) × (v ≡ true)
-    go true true true a e = (refl, refl)
-    go true true false a e = absurd (omega (arith, e))
-    go true false v a e = absurd (omega (arith, e))
-    go false u v a e = absurd (omega (arith, e))
+pub most-16 : (c : ℕ) → pick (ltb c 16) c 16 ≤ 16
+most-16 c = elim (decLt c 16) [ yes l ↦ rw (lt-ltb c 16 l) (omega arith) | no f ↦ rw (le-ltb c 16 (omega (arith, f))) (omega arith) ]
 
 -- ---- the test
 module _ (hs : List ℕ) (n : ℕ) where
@@ -74,3 +66,13 @@ module _ (hs : List ℕ) where
         | yes e ↦ rw e (getD-set-same (homesOf c hs) c (getD hs c 0) 0 (omega (arith, homes-length c)) ∙ sym (home-at (c + 1) c h ∙ rw (lt-ltb c (c + 1) (omega arith))))
         | no f ↦ getD-set-other (homesOf c hs) c j (getD hs c 0) 0 f ∙ home-at c j l ∙ ap (λ (t : Bool). pick t (getD hs j 0) 0) (same j f) ∙ sym (home-at (c + 1) j l)
       ]
+
+  -- a count past the row keeps all of it
+  pub homes-full : (c : ℕ) → homesOf (pick (ltb c 16) c 16) hs ≡ homesOf c hs
+  homes-full c = elim (decLt c 16) [
+    | yes l ↦ rw (lt-ltb c 16 l)
+    | no f ↦ rw (le-ltb c 16 (omega (arith, f))) (ext-getD 0 (homesOf 16 hs) (homesOf c hs) (homes-length 16 ∙ sym (homes-length c)) (λ j l. at j (omega (arith, l, homes-length 16)) (omega (arith, f))))
+  ]
+    where
+      at : (j : ℕ) → j < 16 → 16 ≤ c → getD (homesOf 16 hs) j 0 ≡ getD (homesOf c hs) j 0
+      at j l m = home-at 16 j l ∙ rw (lt-ltb j 16 l) (sym (home-at c j l ∙ rw (lt-ltb j c (omega (arith, l, m)))))

@@ -15,6 +15,6 @@ module _ (n p o : ℕ) (hp ho : List ℕ) (a : Answer) (e : a ≡ firstOf (openi
   unfolding opening
   opening-refused h z f = rw (f, ← e, ne-eqb (number a) 0 (λ q. h (g ∙ q)))
 
-  pub opening-taken : k ≡ 0 → (x y : List ℕ) → x ≡ homesOf p hp → y ≡ homesOf o ho → (z : Board) → z ≡ emptyBoard n p o x y → _≡_ {A = Stepped} (record { answer = a; board = z }) (opening n p o hp ho)
+  pub opening-taken : k ≡ 0 → (z : Board) → z ≡ emptyBoard n p o (homesOf p hp) (homesOf o ho) → _≡_ {A = Stepped} (record { answer = a; board = z }) (opening n p o hp ho)
   unfolding opening
-  opening-taken h x y ex ey z f = rw (f, ex, ey, ← e, ← g, h)
+  opening-taken h z f = rw (f, ← e, ← g, h)

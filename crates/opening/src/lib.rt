@@ -3,7 +3,7 @@ ghost use mathlib.Core.Path.{_≡_};
 ghost use Prim.Native.Nat.{_≤_};
 ghost use lib.Dec.{ltb};
 ghost use lib.ListN.{getD};
-ghost use Rattle.rules.specs.Tables.{all};
+ghost use Rattle.rules.specs.Tables.{all, pick};
 ghost use Rattle.rules.specs.Answers.{firstOf};
 ghost use Rattle.rules.specs.Commands.{homesOf, emptyBoard, zeroBoard, openingTests, opening};
 use rules::Answer;
@@ -34,12 +34,20 @@ fn homes_fit(homes: [u8; 16], count: u8, nodes: u8) -> bool
     true
 }
 
+fn at_most_16(count: u8) -> usize
+    ensures { λ r. ⌜ r ≡ pick (ltb count 16) count 16 ⌝ }
+{
+    if count < 16 {
+        return wide(count);
+    }
+    16
+}
+
 // The first `count` homes, and zero past them.
 fn homes_of(count: u8, homes: [u8; 16]) -> [u8; 16]
-    requires { ⌜ count ≤ 16 ⌝ }
     ensures { λ r. ⌜ r ≡ homesOf count homes ⌝ }
 {
-    let n = wide(count);
+    let n = at_most_16(count);
     let mut kept = [0u8; 16];
     let mut k: usize = 0;
     while k < n {
@@ -49,7 +57,8 @@ fn homes_of(count: u8, homes: [u8; 16]) -> [u8; 16]
     kept
 }
 
-fn opening_answer(
+// The answer to an opening: its tests in their order.
+pub fn answer(
     nodes: u8,
     processes: u8,
     objects: u8,
@@ -119,6 +128,21 @@ fn empty_board(
     }
 }
 
+// The board of an opening that is not refused: empty books, and no message. Homes past the counts are ignored.
+pub fn board(
+    nodes: u8,
+    processes: u8,
+    objects: u8,
+    process_home: [u8; 16],
+    object_home: [u8; 16],
+) -> Board
+    ensures { λ r. ⌜ r ≡ emptyBoard nodes processes objects (homesOf processes «process_home») (homesOf objects «object_home») ⌝ }
+{
+    let kept_processes = homes_of(processes, process_home);
+    let kept_objects = homes_of(objects, object_home);
+    empty_board(nodes, processes, objects, kept_processes, kept_objects)
+}
+
 // The board of zeros, which a refused opening hands back.
 pub fn zero_board() -> Board
     ensures { λ r. ⌜ r ≡ zeroBoard ⌝ }
@@ -136,17 +160,15 @@ pub fn open(
 ) -> Stepped
     ensures { λ r. ⌜ r ≡ opening nodes processes objects «process_home» «object_home» ⌝ }
 {
-    let answer = opening_answer(nodes, processes, objects, process_home, object_home);
+    let answer = answer(nodes, processes, objects, process_home, object_home);
     if values::answer::number(answer) != 0 {
         return Stepped {
             answer: answer,
             board: zero_board(),
         };
     }
-    let kept_processes = homes_of(processes, process_home);
-    let kept_objects = homes_of(objects, object_home);
     Stepped {
         answer: answer,
-        board: empty_board(nodes, processes, objects, kept_processes, kept_objects),
+        board: board(nodes, processes, objects, process_home, object_home),
     }
 }

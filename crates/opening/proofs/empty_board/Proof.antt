@@ -1,4 +1,4 @@
--- `bench::opening::empty_board` meets its contract. Assumes nothing.
+-- `empty_board` meets its contract. Assumes nothing.
 use borrow.Author.Needs.{needs}
 use Rattle.opening.proofs.empty_board.Statement.{statement}
 use Rattle.opening.proofs.empty_board.Tie as tie

@@ -1,4 +1,4 @@
--- `bench::opening::homes_fit` meets its contract: the homes passed are nodes. Assumes nothing.
+-- `homes_fit` meets its contract: the homes passed are nodes. Assumes nothing.
 use mathlib.Core.Path.{_≡_, sym}
 use mathlib.Core.Bool.{true}
 use Prim.Native.Nat.{_-_, _≤_}

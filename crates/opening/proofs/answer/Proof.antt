@@ -1,12 +1,12 @@
--- `bench::opening::opening_answer` meets its contract: the tests in their order. Assumes nothing.
+-- `answer` meets its contract: the tests in their order. Assumes nothing.
 use mathlib.Core.Path.{sym, ap, _∙_}
 use mathlib.Core.Bool.{not}
 use borrow.Author.Tests.{not-false}
 use borrow.Author.Needs.{needs}
 use Rattle.rules.specs.Answers.{firstOf}
 use Rattle.opening.proofs.Homes.{count-most}
-use Rattle.opening.proofs.opening_answer.Statement.{statement}
-use Rattle.opening.proofs.opening_answer.Tie as tie
+use Rattle.opening.proofs.answer.Statement.{statement}
+use Rattle.opening.proofs.answer.Tie as tie
 
 count-fits-requires : tie.Need-count-fits-requires
 count-fits-requires c κs = search needs
@@ -47,8 +47,8 @@ returns-6 : tie.Need-returns-6
 unfolding firstOf
 returns-6 c = rw (ap not (sym (c .before .before .before .before .before .before .before .before .before .count-fits .ensures)) ∙ c .before .before .before .before .before .before .before .before .if1 .left, ap not (sym (c .before .before .before .before .before .before .before .count-fits2 .ensures)) ∙ c .before .before .before .before .before .before .if2 .left, ap not (sym (c .before .before .before .before .before .count-fits3 .ensures)) ∙ c .before .before .before .before .if3 .left, ap not (sym (c .before .before .before .homes-fit .ensures)) ∙ c .before .before .if4 .left, ap not (sym (c .before .homes-fit2 .ensures)) ∙ c .if5 .left)
 
-pub opening-answer-spec : {M : Type 1} → statement M
-opening-answer-spec =
+pub answer-spec : {M : Type 1} → statement M
+answer-spec =
     tie.close
     (tie.spec
     count-fits-requires
