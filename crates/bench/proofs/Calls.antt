@@ -12,11 +12,13 @@ use Rattle.rules.specs.declared.Answer.{Answer}
 use Rattle.rules.specs.declared.Answer.the-variants.{Done, OutOfShape, OddByte, RoomTooShort}
 use Rattle.rules.specs.declared.Stepped.{Stepped}
 use Rattle.rules.specs.declared.Drained.{Drained}
+use Rattle.rules.specs.declared.Ran.{Ran}
 use Rattle.rules.specs.Answers.{number, firstOf}
+use Rattle.rules.specs.Board.{load}
 use Rattle.rules.specs.Commands.{turn, draining, zeroBoard, emptyBoard, homesOf, openingTests, opening}
 use Rattle.rules.specs.Shape.{inShape, step, drain}
-use Rattle.rules.specs.Sheet.{refusedRun, wholeRun, run, runOpening}
-use Rattle.laws.proofs.Opening.{opening-in-shape}
+use Rattle.rules.specs.Sheet.{Run, refusedRun, wholeRun, run, runOpening}
+use Rattle.laws.proofs.Opening.{empty-load, opening-in-shape}
 use Rattle.opening.proofs.Opened.{opening-refused, opening-taken}
 use Rattle.values.specs.Numbers.{answerOf}
 use Rattle.values.proofs.Numbers.{answer-back}
@@ -31,6 +33,10 @@ step-refused b c e = rw e
 pub step-taken : (b : Board) (c : Command) → inShape b ≡ true → turn b c ≡ step b c
 unfolding step
 step-taken b c e = rw e
+
+-- what is handed back and the room then, from one equation
+pub both : {x y : Run} {r : Ran} {room : List ℕ} → x ≡ y → r ≡ y .ran → room ≡ y .room → (r ≡ x .ran) × (room ≡ x .room)
+both e f g = (f ∙ ap (λ (z : Run). z .ran) (sym e), g ∙ ap (λ (z : Run). z .room) (sym e))
 
 -- ---- many commands
 module _ (b : Board) (s room : List ℕ) where
@@ -73,6 +79,9 @@ module _ (n p o : ℕ) (hp ho : List ℕ) (a : Answer) (e : a ≡ firstOf (openi
     opening-ready b f =
         let q : b ≡ opening n p o hp ho .board = f ∙ ap (λ (r : Stepped). r .board) (sym opened) in
         shape-ready b (rw q (opening-in-shape .sized n p o hp ho)) (rw q (opening-in-shape .inShape n p o hp ho (ap (λ (r : Stepped). r .answer) opened)))
+
+    pub opening-load : (b : Board) → b ≡ start → 0 ≡ load b
+    opening-load b f = sym (ap load f ∙ empty-load n p o (homesOf p hp) (homesOf o ho))
 
     pub opening-odd : length s % 2 ≡ 1 → runOpening n p o hp ho s room ≡ refusedRun OddByte zeroBoard room
     unfolding runOpening firstOf

@@ -79,7 +79,7 @@ pub fn run(b: Board, s: &[u8], room: &mut [u8]) -> Ran
     if room.len() < n {
         return refused(Answer::RoomTooShort, b);
     }
-    engine::turns(b, s, false, n, room)
+    engine::turns(b, s, false, n, room, counts::load(b))
 }
 
 // An opening, and packed commands on it. An opening is in shape, so the shape is not asked. Where it is refused, the board is all zeros.
@@ -107,7 +107,7 @@ pub fn run_opening(
         return refused(Answer::RoomTooShort, opening::zero_board());
     }
     let start = opening::board(nodes, processes, objects, process_home, object_home);
-    engine::turns(start, s, false, n, room)
+    engine::turns(start, s, false, n, room, 0)
 }
 
 // The lowest-numbered message arrives, again and again, until none is left or the budget is used.
@@ -123,7 +123,7 @@ pub fn drain(b: Board, budget: usize) -> Drained
     }
     let s = [0u8; 2];
     let mut room = [0u8; 1];
-    let r = engine::turns(b, &s, true, budget, &mut room);
+    let r = engine::turns(b, &s, true, budget, &mut room, counts::load(b));
     let next = r.board;
     Drained {
         answer: Answer::Done,

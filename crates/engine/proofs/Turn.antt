@@ -1,10 +1,11 @@
 -- What a turn answers and makes, by the parts that the engine asks: the refusals but the load, then the load, or the number in flight.
-use mathlib.Core.Path.{_≡_, refl, _∙_}
+use mathlib.Core.Path.{_≡_, refl, sym, _∙_}
 use mathlib.Core.Logic.{_≢_}
 use mathlib.Core.Bool.{Bool, true, false, not}
 use mathlib.Core.List.{List, [], _∷_}
 use Prim.Native.Nat.{ℕ, zero, suc, _≤_, _<_}
 use native.Mathlib.Omega.{arith}
+use native.Mathlib.Decide.{ℕ-discrete, decLt}
 use borrow.Author.Tests.{ne-eqb, lt-ltb, le-ltb}
 use lib.Dec.{eqb, ltb, leb}
 use Rattle.rules.specs.declared.Board.{Board}
@@ -25,7 +26,7 @@ use Rattle.rules.specs.Board.{processAt, putProcess, send, kindLoad, load}
 use Rattle.rules.specs.Commands.{modeOf, requested, released, delivered, effect, answerTo, turn}
 use Rattle.rules.specs.Sheet.{byKind}
 use Rattle.processes.specs.Tests.{homeRequestTests, homeReleaseTests}
-use Rattle.engine.specs.Packed.{homeAnswer, topLoad, bookAfter, kindSent}
+use Rattle.engine.specs.Packed.{bookAnswer, topLoad, weighed, bookAfter, kindSent}
 
 -- the answer's number and the board of a turn
 pub record Turns (b : Board) (c : Command) (n : ℕ) (y : Board) : Type 0 where
@@ -65,11 +66,11 @@ release-chain false false true t9 heavy = refl
 release-chain false false false true heavy = refl
 release-chain false false false false heavy = refl
 
--- the ways of a request or a release: its home's answer a, the highest load at which it is taken, and the load w
+-- the ways of a request or a release, by its home's answer a, at load w; the highest load at which it is taken
 pub record HomeWays (b : Board) (c : Command) (a most w : ℕ) (new : Board) : Type 0 where
   pub refused : a ≢ 0 → Turns b c a b
-  pub heavy : a ≡ 0 → (top : ℕ) → top ≡ most → top < w → Turns b c 10 b
-  pub light : a ≡ 0 → (top : ℕ) → top ≡ most → w ≤ top → Turns b c 0 new
+  pub accepted : a ≡ 0 → Turns b c a new
+  pub light : a ≡ 0 → w ≤ most
 
 -- ---- a command by its kind
 module _ (b : Board) (p o n : ℕ) where
@@ -100,43 +101,60 @@ module _ (b : Board) (p o n : ℕ) where
   delivery k h l = rw (le-ltb k 2 (omega arith), ne-eqb k 2 (λ e. omega (arith, e)))
 
   -- ---- the ways of a turn, by the answer that the code has in hand
-  module _ (k : ℕ) (h : k < 3) (book : Process) (a o′ : ℕ) (eb : book ≡ processAt b p) (eo : o′ ≡ o) (ea : a ≡ homeAnswer k p o′ (b .«process_count») (b .«object_count») book) where
-    at-home : a ≡ number (firstOf (homeTests k (processAt b p)))
-    unfolding homeAnswer
-    at-home = ea ∙ rw (eo, eb)
+  module _ (k : ℕ) (h : k < 3) (book : Process) (eb : book ≡ processAt b p) (w : ℕ) (ew : w ≡ load b) where
+    abbrev atHome : ℕ
+    atHome = bookAnswer k p o (b .«process_count») (b .«object_count») book
 
-    chain : answerTo b (packed k) ≡ withLoad (firstOf (homeTests k (processAt b p))) (ltb (topLoad k) (load b))
-    chain = home-answers k h
+    at-home : atHome ≡ number (firstOf (homeTests k (processAt b p)))
+    unfolding bookAnswer
+    at-home = rw eb
 
-    home-refuses : a ≢ 0 → Turns b (packed k) a b
+    chain : answerTo b (packed k) ≡ withLoad (firstOf (homeTests k (processAt b p))) (ltb (topLoad k) w)
+    chain = home-answers k h ∙ rw ew
+
+    home-refuses : atHome ≢ 0 → Turns b (packed k) atHome b
     home-refuses z = rw at-home (refuses b (packed k) (firstOf (homeTests k (processAt b p))) (chain ∙ rw (ne-eqb _ 0 (λ e. z (at-home ∙ e)))) (λ e. z (at-home ∙ e)))
 
-    module _ (w : ℕ) (ew : w ≡ load b) (z : a ≡ 0) (top : ℕ) (et : top ≡ topLoad k) where
-      loaded : answerTo b (packed k) ≡ pick (ltb top w) LoadTooHigh Done
-      loaded = chain ∙ rw (← at-home, z, et, ew)
+    loaded : atHome ≡ 0 → answerTo b (packed k) ≡ pick (ltb (topLoad k) w) LoadTooHigh Done
+    loaded z = chain ∙ rw (← at-home, z)
 
-      load-refuses : top < w → Turns b (packed k) 10 b
-      load-refuses l = refuses b (packed k) LoadTooHigh (loaded ∙ rw (lt-ltb top w l)) (λ e. omega (arith, e))
+    load-refuses : atHome ≡ 0 → topLoad k < w → Turns b (packed k) 10 b
+    load-refuses z l = refuses b (packed k) LoadTooHigh (loaded z ∙ rw (lt-ltb (topLoad k) w l)) (λ e. omega (arith, e))
 
-      load-accepts : w ≤ top → Turns b (packed k) 0 (made k)
-      load-accepts l = rw (← home-makes k h) (accepts b (packed k) (loaded ∙ rw (le-ltb top w l)))
+    load-accepts : atHome ≡ 0 → w ≤ topLoad k → Turns b (packed k) 0 (made k)
+    load-accepts z l = rw (← home-makes k h) (accepts b (packed k) (loaded z ∙ rw (le-ltb (topLoad k) w l)))
 
-    pub home-ways : (w : ℕ) → w ≡ load b → HomeWays b (packed k) a (topLoad k) w (made k)
-    home-ways w ew = record { refused = home-refuses; heavy = load-refuses w ew; light = load-accepts w ew }
+    pub home-ways : (a : ℕ) → a ≡ weighed atHome (topLoad k) w → HomeWays b (packed k) a (topLoad k) w (made k)
+    home-ways a ea = elim (ℕ-discrete atHome 0) [
+      | yes z ↦ elim (decLt (topLoad k) w) [
+        | yes l ↦ let e : a ≡ 10 = ea ∙ rw (z, lt-ltb (topLoad k) w l) in record { refused = λ _. rw e (load-refuses z l); accepted = λ f. absurd (omega (arith, e, f)); light = λ f. absurd (omega (arith, e, f)) }
+        | no n ↦ let l : w ≤ topLoad k = omega (arith, n) in let e : a ≡ 0 = ea ∙ rw (z, le-ltb (topLoad k) w l) in record { refused = λ f. absurd (f e); accepted = λ _. rw e (load-accepts z l); light = λ _. l }
+      ]
+      | no n ↦ let e : a ≡ atHome = ea ∙ rw (ne-eqb atHome 0 n) in record { refused = λ _. rw e (home-refuses n); accepted = λ f. absurd (n (sym e ∙ f)); light = λ f. absurd (n (sym e ∙ f)) }
+    ]
 
     -- what the code writes and sends
-    pub makes : (i : ℕ) (new : Process) (out : Kind) (none : Entries) → i ≡ p → new ≡ bookAfter k book o′ → out ≡ kindSent k p o′ → none ≡ noEntries
+    pub makes : (i : ℕ) (new : Process) (out : Kind) (none : Entries) → i ≡ p → new ≡ bookAfter k book o → out ≡ kindSent k p o → none ≡ noEntries
         → send (putProcess b i new) (record { kind = out; list = none }) ≡ made k
-    makes i new out none ei en es ez = rw (ei, en, es, ez, eo, eb)
+    makes i new out none ei en es ez = rw (ei, en, es, ez, eb)
 
-  module _ (k : ℕ) (h : k < 4) (l : 3 ≤ k) (t : Bool) (g : n < 64) (e : t ≡ taken (b .occupied) n) where
-    pub absent : t ≡ false → Turns b (packed k) 11 b
+  -- the ways of a delivery
+  module _ (k : ℕ) (h : k < 4) (l : 3 ≤ k) (g : n < 64) (a : ℕ) (e : a ≡ pick (taken (b .occupied) n) 0 11) where
+    pub absent : a ≢ 0 → Turns b (packed k) a b
     unfolding answerTo firstOf
-    absent f = rw (delivery k h l) (refuses b (Do.Deliver n) NoMessage (rw (lt-ltb n 64 g, ← e, f)) (λ e. omega (arith, e)))
+    absent f = go (taken (b .occupied) n) refl
+      where
+        go : (t : Bool) → taken (b .occupied) n ≡ t → Turns b (packed k) a b
+        go true z = absurd (f (e ∙ rw z))
+        go false z = let i : a ≡ 11 = e ∙ rw z in rw (i, delivery k h l) (refuses b (Do.Deliver n) NoMessage (rw (lt-ltb n 64 g, z)) (λ q. omega (arith, q)))
 
-    pub present : t ≡ true → Turns b (packed k) 0 (delivered b n)
+    pub present : a ≡ 0 → Turns b (packed k) a (delivered b n)
     unfolding answerTo firstOf effect
-    present f = rw (delivery k h l) (accepts b (Do.Deliver n) (rw (lt-ltb n 64 g, ← e, f)))
+    present f = go (taken (b .occupied) n) refl
+      where
+        go : (t : Bool) → taken (b .occupied) n ≡ t → Turns b (packed k) a (delivered b n)
+        go true z = rw (f, delivery k h l) (accepts b (Do.Deliver n) (rw (lt-ltb n 64 g, z)))
+        go false z = absurd (let i : a ≡ 11 = e ∙ rw z in omega (arith, i, f))
 
 pub top-most : (k : ℕ) → topLoad k ≤ 63
 top-most k = go (eqb k 2)

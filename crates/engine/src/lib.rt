@@ -1,7 +1,10 @@
 // The engine of the board: one loop that holds the board as one local and does every write but those of grants after a first. A handler
 // of a message sees the one book that it acts on. This is the inner room of the bench, which asks for the shape first.
+ghost use mathlib.Core.Path.{_≡_};
+ghost use Rattle.rules.specs.Board as Boards;
 ghost use Rattle.engine.specs.Ready.{Ready};
 ghost use Rattle.engine.specs.Work.{Reach, Worked};
+use crate::packed::home_answer;
 use rules::Answer;
 use rules::Board;
 use rules::Flight;
@@ -14,15 +17,15 @@ mod next;
 mod packed;
 
 // Each command of the slice, two bytes a command, on the board; each answer's number into the room. Or, with `lowest`, the lowest number
-// in flight is delivered again and again, until none is left. At most so many turns.
-pub fn turns(start: Board, s: &[u8], lowest: bool, most: usize, room: &mut [u8]) -> Ran
-    requires { ⌜ Ready start × Reach lowest (now s) most (now room) ⌝ }
+// in flight is delivered again and again, until none is left. At most so many turns. The caller says the load that the board starts with.
+pub fn turns(start: Board, s: &[u8], lowest: bool, most: usize, room: &mut [u8], load: usize) -> Ran
+    requires { ⌜ Ready start × Reach lowest (now s) most (now room) × (load ≡ Boards.load start) ⌝ }
     ensures { λ r. ⌜ Worked lowest start (now (s .entry)) most (now (room .entry)) r (now (room .exit)) ⌝ }
 {
     let mut b = start;
     let free = Flight { kind: Kind::Free };
     let none = values::message::no_entries();
-    let mut weight = counts::load(b);
+    let mut weight = load;
     let mut i: usize = 0;
     while i < most {
         if crate::next::is_over(lowest, b.occupied) {
@@ -31,169 +34,147 @@ pub fn turns(start: Board, s: &[u8], lowest: bool, most: usize, room: &mut [u8])
         let hi = crate::next::first_byte(s, i, lowest, b.occupied);
         let lo = crate::next::second_byte(s, i, lowest);
         let at_room = crate::next::answer_place(i, lowest);
-        let kind = hi / 64;
-        match kind {
-            0..=2 => {
-                let p = (hi / 4) % 16;
-                let o = crate::packed::object_number(hi, lo);
-                let pi = wide(p);
-                let book = b.processes[pi];
-                let answer = crate::packed::home_answer(
-                    kind,
-                    p,
-                    o,
-                    b.process_count,
-                    b.object_count,
-                    book,
-                );
-                if answer != 0 {
-                    room[at_room] = answer;
-                    i += 1;
+        if crate::packed::is_at_home(hi) {
+            let pi = wide((hi / 4) % 16);
+            let book = b.processes[pi];
+            let answer = home_answer(hi, lo, b.process_count, b.object_count, book, weight);
+            room[at_room] = answer;
+            i += 1;
+            if answer != 0 {
+                continue;
+            }
+            let process = crate::packed::book_after(hi, lo, book);
+            b.processes[pi] = process;
+            let to = values::bits::lowest_free(b.occupied);
+            let out = crate::packed::kind_sent(hi, lo);
+            weight += values::message::kind_load(out);
+            let flight = Flight { kind: out };
+            b.flights[to] = flight;
+            b.lists[to] = none;
+            b.occupied = values::bits::with(b.occupied, to as u8);
+            continue;
+        }
+        let num = hi % 64;
+        let answer = crate::packed::delivery_answer(b.occupied, num);
+        room[at_room] = answer;
+        i += 1;
+        if answer != 0 {
+            continue;
+        }
+        let at = wide(num);
+        let arrived = b.flights[at];
+        let list = b.lists[at];
+        let sort = arrived.kind;
+        weight -= values::message::kind_load(sort);
+        b.flights[at] = free;
+        b.lists[at] = none;
+        b.occupied = values::bits::without(b.occupied, num);
+        let to = values::bits::lowest_free(b.occupied);
+        match sort {
+            Kind::Free => {
+                continue;
+            }
+            Kind::Request(q, x, mode) => {
+                let xi = wide(x);
+                let old = b.objects[xi];
+                if objects::is_welcome(old, q, mode) {
+                    let held = objects::hold(old, q, mode);
+                    b.objects[xi] = held;
+                    weight += 1;
+                    let flight = Flight {
+                        kind: Kind::Grant(q, x, mode),
+                    };
+                    b.flights[to] = flight;
+                    b.lists[to] = none;
+                    b.occupied = values::bits::with(b.occupied, to as u8);
                     continue;
                 }
-                if crate::packed::top_load(kind) < weight {
-                    room[at_room] = 10;
-                    i += 1;
+                let joined = objects::join(old, q, mode);
+                b.objects[xi] = joined;
+                weight = weight + wide(joined.line_count) - wide(old.line_count);
+                let entries = lists::started(old, q, mode, old.line_count);
+                let out = lists::asks_next(entries.next, entries.count);
+                let more = values::message::kind_load(out);
+                if more == 0 {
                     continue;
                 }
-                room[at_room] = 0;
-                i += 1;
-                let process = crate::packed::book_after(kind, book, o);
-                b.processes[pi] = process;
-                let to = values::bits::lowest_free(b.occupied);
-                let out = crate::packed::kind_sent(kind, p, o);
-                weight += values::message::kind_load(out);
+                weight += more;
                 let flight = Flight { kind: out };
                 b.flights[to] = flight;
-                b.lists[to] = none;
+                b.lists[to] = entries;
                 b.occupied = values::bits::with(b.occupied, to as u8);
                 continue;
             }
-            _ => {
-                let num = hi % 64;
-                if !values::bits::has(b.occupied, num) {
-                    room[at_room] = 11;
-                    i += 1;
+            Kind::Grant(q, x, mode) => {
+                let qi = wide(q);
+                let process = processes::granted(b.processes[qi], x, mode);
+                b.processes[qi] = process;
+                continue;
+            }
+            Kind::Release(q, x) => {
+                let xi = wide(x);
+                let struck = objects::strike(b.objects[xi], q);
+                if !objects::front_goes(struck) {
+                    b.objects[xi] = struck;
                     continue;
                 }
-                room[at_room] = 0;
-                i += 1;
-                let at = wide(num);
-                let arrived = b.flights[at];
-                let list = b.lists[at];
-                let sort = arrived.kind;
-                weight -= values::message::kind_load(sort);
-                b.flights[at] = free;
-                b.lists[at] = none;
-                b.occupied = values::bits::without(b.occupied, num);
-                let to = values::bits::lowest_free(b.occupied);
-                match sort {
-                    Kind::Free => {
-                        continue;
-                    }
-                    Kind::Request(q, x, mode) => {
-                        let xi = wide(x);
-                        let old = b.objects[xi];
-                        if objects::is_welcome(old, q, mode) {
-                            let held = objects::hold(old, q, mode);
-                            b.objects[xi] = held;
-                            weight += 1;
-                            let flight = Flight {
-                                kind: Kind::Grant(q, x, mode),
-                            };
-                            b.flights[to] = flight;
-                            b.lists[to] = none;
-                            b.occupied = values::bits::with(b.occupied, to as u8);
-                            continue;
-                        }
-                        let joined = objects::join(old, q, mode);
-                        b.objects[xi] = joined;
-                        weight = weight + wide(joined.line_count) - wide(old.line_count);
-                        let entries = lists::started(old, q, mode, old.line_count);
-                        let out = lists::asks_next(entries.next, entries.count);
-                        let more = values::message::kind_load(out);
-                        if more == 0 {
-                            continue;
-                        }
-                        weight += more;
-                        let flight = Flight { kind: out };
-                        b.flights[to] = flight;
-                        b.lists[to] = entries;
-                        b.occupied = values::bits::with(b.occupied, to as u8);
-                        continue;
-                    }
-                    Kind::Grant(q, x, mode) => {
-                        let qi = wide(q);
-                        let process = processes::granted(b.processes[qi], x, mode);
-                        b.processes[qi] = process;
-                        continue;
-                    }
-                    Kind::Release(q, x) => {
-                        let xi = wide(x);
-                        let struck = objects::strike(b.objects[xi], q);
-                        if !objects::front_goes(struck) {
-                            b.objects[xi] = struck;
-                            continue;
-                        }
-                        let book = objects::let_in(struck);
-                        b.objects[xi] = book;
-                        let flight = Flight {
-                            kind: crate::grants::grant_at(struck, 0, x),
-                        };
-                        b.flights[to] = flight;
-                        b.lists[to] = none;
-                        b.occupied = values::bits::with(b.occupied, to as u8);
-                        let granted = struck.line_count - book.line_count;
-                        if granted == 1 {
-                            continue;
-                        }
-                        b = crate::grants::grant_rest(b, struck, x, granted);
-                        weight = counts::load(b);
-                        continue;
-                    }
-                    Kind::ListToHome => {
-                        let qi = wide(crate::packed::asked_of(list));
-                        let process = b.processes[qi];
-                        let wait = process.wait;
-                        let onward = lists::onward(list.next, list.count, wait);
-                        let out = onward.kind;
-                        let more = values::message::kind_load(out);
-                        if more == 0 {
-                            continue;
-                        }
-                        weight += more;
-                        let mut entries = list;
-                        entries.next = onward.next;
-                        let flight = Flight { kind: out };
-                        b.flights[to] = flight;
-                        b.lists[to] = entries;
-                        b.occupied = values::bits::with(b.occupied, to as u8);
-                        continue;
-                    }
-                    Kind::ListToObject(x) => {
-                        let book = b.objects[wide(x)];
-                        let place = lists::place_in(book, crate::packed::asked_of(list));
-                        if lists::closes(list, book, place) {
-                            let si = wide(crate::packed::starter_of(list));
-                            let ring = lists::ring::along_leads(list, wide(list.next));
-                            let kept = lists::ring::keeping(b.rings[si], ring);
-                            b.rings[si] = kept;
-                            continue;
-                        }
-                        let entries = lists::grown(list, book, place);
-                        let out = lists::asks_next(entries.next, entries.count);
-                        let more = values::message::kind_load(out);
-                        if more == 0 {
-                            continue;
-                        }
-                        weight += more;
-                        let flight = Flight { kind: out };
-                        b.flights[to] = flight;
-                        b.lists[to] = entries;
-                        b.occupied = values::bits::with(b.occupied, to as u8);
-                        continue;
-                    }
+                let book = objects::let_in(struck);
+                b.objects[xi] = book;
+                let flight = Flight {
+                    kind: crate::grants::grant_at(struck, 0, x),
+                };
+                b.flights[to] = flight;
+                b.lists[to] = none;
+                b.occupied = values::bits::with(b.occupied, to as u8);
+                let granted = struck.line_count - book.line_count;
+                if granted == 1 {
+                    continue;
                 }
+                b = crate::grants::grant_rest(b, struck, x, granted);
+                weight = counts::load(b);
+                continue;
+            }
+            Kind::ListToHome => {
+                let qi = wide(crate::packed::asked_of(list));
+                let process = b.processes[qi];
+                let wait = process.wait;
+                let onward = lists::onward(list.next, list.count, wait);
+                let out = onward.kind;
+                let more = values::message::kind_load(out);
+                if more == 0 {
+                    continue;
+                }
+                weight += more;
+                let mut entries = list;
+                entries.next = onward.next;
+                let flight = Flight { kind: out };
+                b.flights[to] = flight;
+                b.lists[to] = entries;
+                b.occupied = values::bits::with(b.occupied, to as u8);
+                continue;
+            }
+            Kind::ListToObject(x) => {
+                let book = b.objects[wide(x)];
+                let place = lists::place_in(book, crate::packed::asked_of(list));
+                if lists::closes(list, book, place) {
+                    let si = wide(crate::packed::starter_of(list));
+                    let ring = lists::ring::along_leads(list, wide(list.next));
+                    let kept = lists::ring::keeping(b.rings[si], ring);
+                    b.rings[si] = kept;
+                    continue;
+                }
+                let entries = lists::grown(list, book, place);
+                let out = lists::asks_next(entries.next, entries.count);
+                let more = values::message::kind_load(out);
+                if more == 0 {
+                    continue;
+                }
+                weight += more;
+                let flight = Flight { kind: out };
+                b.flights[to] = flight;
+                b.lists[to] = entries;
+                b.occupied = values::bits::with(b.occupied, to as u8);
+                continue;
             }
         }
     }

@@ -4,19 +4,22 @@ ghost use Prim.Native.Nat.{_<_, _+_, _*_, _/_, _%_};
 ghost use Rattle.rules.specs.Lists as Lists;
 ghost use Rattle.rules.specs.Ranges.{ListRanged};
 ghost use Rattle.rules.specs.Commands.{modeOf};
-ghost use Rattle.engine.specs.Packed.{homeAnswer, topLoad, bookAfter, kindSent};
+ghost use lib.Dec.{ltb};
+ghost use Rattle.rules.specs.Bits.{taken};
+ghost use Rattle.rules.specs.Tables.{pick};
+ghost use Rattle.engine.specs.Packed.{bookAnswer, topLoad, homeAnswer, bookAfter, kindSent};
 use rules::Entries;
 use rules::Kind;
 use rules::Mode;
 use rules::Process;
 
-pub fn object_number(hi: u8, lo: u8) -> u8
+fn object_number(hi: u8, lo: u8) -> u8
     ensures { λ r. ⌜ (r ≡ hi % 4 * 4 + lo / 64) × (r < 16) ⌝ }
 {
     (hi % 4) * 4 + lo / 64
 }
 
-pub fn mode_of(kind: u8) -> Mode
+fn mode_of(kind: u8) -> Mode
     ensures { λ r. ⌜ r ≡ modeOf kind ⌝ }
 {
     match kind {
@@ -25,10 +28,21 @@ pub fn mode_of(kind: u8) -> Mode
     }
 }
 
+// A request or a release, which the home of its process answers; else a delivery.
+pub fn is_at_home(hi: u8) -> bool
+    ensures { λ r. ⌜ r ≡ ltb (hi / 64) 3 ⌝ }
+{
+    let kind = hi / 64;
+    match kind {
+        0..=2 => true,
+        _ => false,
+    }
+}
+
 // The refusals of a request or a release, but that of the load.
-pub fn home_answer(kind: u8, p: u8, o: u8, processes: u8, objects: u8, book: Process) -> u8
+fn book_answer(kind: u8, p: u8, o: u8, processes: u8, objects: u8, book: Process) -> u8
     requires { ⌜ o < 16 ⌝ }
-    ensures { λ r. ⌜ r ≡ homeAnswer kind p o processes objects book ⌝ }
+    ensures { λ r. ⌜ r ≡ bookAnswer kind p o processes objects book ⌝ }
 {
     match kind {
         2 => values::answer::number(processes::release_answer(p, o, processes, objects, book)),
@@ -37,7 +51,7 @@ pub fn home_answer(kind: u8, p: u8, o: u8, processes: u8, objects: u8, book: Pro
 }
 
 // The highest load at which the command is taken.
-pub fn top_load(kind: u8) -> usize
+fn top_load(kind: u8) -> usize
     ensures { λ r. ⌜ r ≡ topLoad kind ⌝ }
 {
     match kind {
@@ -46,11 +60,39 @@ pub fn top_load(kind: u8) -> usize
     }
 }
 
-// The home notes the wait, or drops the hold.
-pub fn book_after(kind: u8, book: Process, o: u8) -> Process
-    requires { ⌜ o < 16 ⌝ }
-    ensures { λ r. ⌜ r ≡ bookAfter kind book o ⌝ }
+// The answer to a request or a release: the load is the last test.
+pub fn home_answer(hi: u8, lo: u8, processes: u8, objects: u8, book: Process, weight: usize) -> u8
+    ensures { λ r. ⌜ r ≡ homeAnswer hi lo processes objects book weight ⌝ }
 {
+    let kind = hi / 64;
+    let o = object_number(hi, lo);
+    let answer = book_answer(kind, (hi / 4) % 16, o, processes, objects, book);
+    if answer != 0 {
+        return answer;
+    }
+    if top_load(kind) < weight {
+        return 10;
+    }
+    0
+}
+
+// The answer to the delivery of a number.
+pub fn delivery_answer(occupied: u64, number: u8) -> u8
+    requires { ⌜ number < 64 ⌝ }
+    ensures { λ r. ⌜ r ≡ pick (taken occupied number) 0 11 ⌝ }
+{
+    if values::bits::has(occupied, number) {
+        return 0;
+    }
+    11
+}
+
+// The home notes the wait, or drops the hold.
+pub fn book_after(hi: u8, lo: u8, book: Process) -> Process
+    ensures { λ r. ⌜ r ≡ bookAfter (hi / 64) book (hi % 4 * 4 + lo / 64) ⌝ }
+{
+    let kind = hi / 64;
+    let o = object_number(hi, lo);
     match kind {
         2 => processes::dropping(book, o),
         _ => processes::asking(book, o, mode_of(kind)),
@@ -58,9 +100,12 @@ pub fn book_after(kind: u8, book: Process, o: u8) -> Process
 }
 
 // What the home sends.
-pub fn kind_sent(kind: u8, p: u8, o: u8) -> Kind
-    ensures { λ r. ⌜ r ≡ kindSent kind p o ⌝ }
+pub fn kind_sent(hi: u8, lo: u8) -> Kind
+    ensures { λ r. ⌜ r ≡ kindSent (hi / 64) (hi / 4 % 16) (hi % 4 * 4 + lo / 64) ⌝ }
 {
+    let kind = hi / 64;
+    let p = (hi / 4) % 16;
+    let o = object_number(hi, lo);
     match kind {
         2 => Kind::Release(p, o),
         _ => Kind::Request(p, o, mode_of(kind)),

@@ -70,7 +70,7 @@ module _ (n p o : ℕ) (hp ho : List ℕ) where
     ring = λ k. ap (λ (x : Ring). length (x .processes)) (replicate-at {A = Ring} 16 k noRing);
   }
 
-  empty-load : load empty ≡ 0
+  pub empty-load : load empty ≡ 0
   unfolding load sum
   empty-load = refl
 

@@ -20,11 +20,17 @@ slice-aggregate-turns c = search needs
 slice-aggregate-turns-2 : tie.Need-slice-aggregate-turns-2
 slice-aggregate-turns-2 c = search needs
 
+load-requires : tie.Need-load-requires
+load-requires c κs = search needs
+
 turns-requires : tie.Need-turns-requires
-turns-requires c κs = (c .before .before .before .is-ready .ensures .1 (not-false _ (c .before .before .if1 .left)), for-drain _ _ _ (omega arith))
+turns-requires c κs = (c .before .before .before .before .is-ready .ensures .1 (not-false _ (c .before .before .before .if1 .left)), for-drain _ _ _ (omega arith), c .load .ensures .0)
 
 returns-2 : tie.Need-returns-2
-returns-2 c = drained-is _ (c .before .before .before .before .before .before .before .args .budget) (c .before .before .before .before .before .before .before .args .b) _ _ (c .before .before .turns .result) (c .before .before .turns .ensures) ∙ drain-taken (c .before .before .before .before .before .before .before .args .b) (c .before .before .before .before .before .before .before .args .budget) (sym (c .before .before .before .before .before .before .is-ready .ensures .0) ∙ not-false _ (c .before .before .before .before .before .if1 .left))
+returns-2 c =
+    let y = c .before .before .before .before .before .before .before in
+    let a = y .before .args in
+    drained-is _ (a .budget) (a .b) _ _ (c .before .before .turns .result) (c .before .before .turns .ensures) ∙ drain-taken (a .b) (a .budget) (sym (y .is-ready .ensures .0) ∙ not-false _ (c .before .before .before .before .before .before .if1 .left))
 
 pub drain-spec : {M : Type 1} → statement M
 drain-spec =
@@ -34,5 +40,6 @@ drain-spec =
     returns
     slice-aggregate-turns
     slice-aggregate-turns-2
+    load-requires
     turns-requires
     returns-2)

@@ -8,14 +8,10 @@ use Rattle.rules.specs.declared.Board.{Board}
 use Rattle.rules.specs.declared.Ran.{Ran}
 use Rattle.rules.specs.Commands.{zeroBoard}
 use Rattle.rules.specs.Sheet.{Run, refusedRun}
-use Rattle.bench.proofs.Calls.{opening-ends, opening-ready, opening-odd, opening-short, opening-whole}
+use Rattle.bench.proofs.Calls.{both, opening-load, opening-ends, opening-ready, opening-odd, opening-short, opening-whole}
 use Rattle.engine.proofs.Working.{for-sheet}
 use Rattle.bench.proofs.run_opening.Statement.{statement}
 use Rattle.bench.proofs.run_opening.Tie as tie
-
--- what is handed back and the room then, from one equation
-both : {x y : Run} {r : Ran} {room : List ℕ} → x ≡ y → r ≡ y .ran → room ≡ y .room → (r ≡ x .ran) × (room ≡ x .room)
-both e f g = (f ∙ ap (λ (z : Run). z .ran) (sym e), g ∙ ap (λ (z : Run). z .room) (sym e))
 
 -- a refusal hands back the board of zeros
 zeros : {x : Run} {a : Answer} {b : Board} {r : Ran} {room : List ℕ} → x ≡ refusedRun a zeroBoard room → b ≡ zeroBoard → r ≡ refusedRun a b [] .ran → (r ≡ x .ran) × (room ≡ x .room)
@@ -70,7 +66,7 @@ turns-requires : tie.Need-turns-requires
 turns-requires c κs =
     let m = c .before .before .before .before .before in
     let a = m .before .before .before .before .args in
-    (opening-ready (a .nodes) (a .processes) (a .objects) (a .process-home) (a .object-home) (m .before .answer .result) (m .before .answer .ensures) (m .number .result) (m .number .ensures) (a .s .now) (a .room .now) (c .before .before .before .before .if1 .left) (c .before .board .result) (c .before .board .ensures), for-sheet _ _ _ refl (c .before .before .if3 .left))
+    (opening-ready (a .nodes) (a .processes) (a .objects) (a .process-home) (a .object-home) (m .before .answer .result) (m .before .answer .ensures) (m .number .result) (m .number .ensures) (a .s .now) (a .room .now) (c .before .before .before .before .if1 .left) (c .before .board .result) (c .before .board .ensures), for-sheet _ _ _ refl (c .before .before .if3 .left), opening-load (a .nodes) (a .processes) (a .objects) (a .process-home) (a .object-home) (m .before .answer .result) (m .before .answer .ensures) (m .number .result) (m .number .ensures) (a .s .now) (a .room .now) (c .before .before .before .before .if1 .left) (c .before .board .result) (c .before .board .ensures))
 
 same-length : tie.Need-same-length
 same-length c = search needs

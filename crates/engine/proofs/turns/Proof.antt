@@ -2,12 +2,12 @@
 -- rules give for the command; its files follow the arms of the loop. Assumes nothing.
 use Rattle.engine.proofs.turns.Statement.{statement}
 use Rattle.engine.proofs.turns.Tie as tie
-use Rattle.engine.proofs.turns.Proof.Loop.{Inv-loop, μ-loop, no-entries-requires, load-requires, loop-holds, is-over-requires, first-byte-requires, second-byte-requires, answer-place-requires, same-length, returns, same-length-2, returns-2}
-use Rattle.engine.proofs.turns.Proof.Asks.{object-number-requires, wide-requires, mul-book, element-copy-out-book, home-answer-requires, slice-write-room, add-i, loop-less, loop-again, top-load-requires, slice-write-room-2, add-i-2, loop-less-2, loop-again-2, slice-write-room-3, add-i-3, book-after-requires, mul-process, element-set-from-process, lowest-free-requires, kind-sent-requires, kind-load-requires, add-weight, mul-flight, element-set-from-flight, mul-none, element-set-from-none, cast-with, with-requires, loop-less-3, loop-again-3}
-use Rattle.engine.proofs.turns.Proof.Takes.{has-requires, slice-write-room-4, add-i-4, loop-less-4, loop-again-4, slice-write-room-5, add-i-5, wide-requires-2, mul-arrived, element-copy-out-arrived, mul-list, element-copy-out-list, kind-load-requires-2, sub-weight, mul-free, element-set-from-free, mul-none-2, element-set-from-none-2, without-requires, lowest-free-requires-2, enum-told, loop-less-5, loop-again-5, enum-known-sort-2, wide-requires-6, mul-granted, element-copy-out-granted, granted-requires, mul-process-2, element-set-from-process-2, loop-less-9, loop-again-9}
-use Rattle.engine.proofs.turns.Proof.Requests.{enum-known-sort, wide-requires-3, mul-old, element-copy-out-old, is-welcome-requires, hold-requires, mul-held, element-set-from-held, add-weight-2, mul-flight-2, element-set-from-flight-2, mul-none-3, element-set-from-none-3, cast-with-2, with-requires-2, loop-less-6, loop-again-6, join-requires, mul-joined, element-set-from-joined, wide-requires-4, add-weight-3, wide-requires-5, sub-weight-2, started-requires, asks-next-requires, kind-load-requires-3, loop-less-7, loop-again-7, add-weight-4, mul-flight-3, element-set-from-flight-3, mul-entries, element-set-from-entries, cast-with-3, with-requires-3, loop-less-8, loop-again-8}
-use Rattle.engine.proofs.turns.Proof.Releases.{enum-known-sort-3, wide-requires-7, mul-strike, element-copy-out-strike, strike-requires, front-goes-requires, mul-struck, element-set-from-struck, loop-less-10, loop-again-10, let-in-requires, mul-book-2, element-set-from-book, grant-at-requires, mul-flight-4, element-set-from-flight-4, mul-none-4, element-set-from-none-4, cast-with-4, with-requires-4, sub-granted, loop-less-11, loop-again-11, grant-rest-requires, load-requires-2, loop-less-12, loop-again-12}
-use Rattle.engine.proofs.turns.Proof.Lists.{enum-told-2, asked-of-requires, wide-requires-8, mul-process-3, element-copy-out-process, onward-requires, kind-load-requires-4, loop-less-13, loop-again-13, add-weight-5, mul-flight-5, element-set-from-flight-5, mul-entries-2, element-set-from-entries-2, cast-with-5, with-requires-5, loop-less-14, loop-again-14, enum-known-sort-4, wide-requires-9, mul-book-3, element-copy-out-book-2, asked-of-requires-2, place-in-requires, closes-requires, starter-of-requires, wide-requires-10, wide-requires-11, along-leads-requires, mul-keeping, element-copy-out-keeping, keeping-requires, mul-kept, element-set-from-kept, loop-less-15, loop-again-15, grown-requires, asks-next-requires-2, kind-load-requires-5, loop-less-16, loop-again-16, add-weight-6, mul-flight-6, element-set-from-flight-6, mul-entries-3, element-set-from-entries-3, cast-with-6, with-requires-6, loop-less-17, loop-again-17}
+use Rattle.engine.proofs.turns.Proof.Loop.{Inv-loop, μ-loop, no-entries-requires, loop-holds, is-over-requires, first-byte-requires, second-byte-requires, answer-place-requires, same-length, returns, same-length-2, returns-2}
+use Rattle.engine.proofs.turns.Proof.Asks.{is-at-home-requires, wide-requires, mul-book, element-copy-out-book, home-answer-requires, slice-write-room, add-i, loop-less, loop-again, book-after-requires, mul-process, element-set-from-process, lowest-free-requires, kind-sent-requires, kind-load-requires, add-weight, mul-flight, element-set-from-flight, mul-none, element-set-from-none, cast-with, with-requires, loop-less-2, loop-again-2}
+use Rattle.engine.proofs.turns.Proof.Takes.{delivery-answer-requires, slice-write-room-2, add-i-2, loop-less-3, loop-again-3, wide-requires-2, mul-arrived, element-copy-out-arrived, mul-list, element-copy-out-list, kind-load-requires-2, sub-weight, mul-free, element-set-from-free, mul-none-2, element-set-from-none-2, without-requires, lowest-free-requires-2, enum-told, loop-less-4, loop-again-4, enum-known-sort-2, wide-requires-6, mul-granted, element-copy-out-granted, granted-requires, mul-process-2, element-set-from-process-2, loop-less-8, loop-again-8}
+use Rattle.engine.proofs.turns.Proof.Requests.{enum-known-sort, wide-requires-3, mul-old, element-copy-out-old, is-welcome-requires, hold-requires, mul-held, element-set-from-held, add-weight-2, mul-flight-2, element-set-from-flight-2, mul-none-3, element-set-from-none-3, cast-with-2, with-requires-2, loop-less-5, loop-again-5, join-requires, mul-joined, element-set-from-joined, wide-requires-4, add-weight-3, wide-requires-5, sub-weight-2, started-requires, asks-next-requires, kind-load-requires-3, loop-less-6, loop-again-6, add-weight-4, mul-flight-3, element-set-from-flight-3, mul-entries, element-set-from-entries, cast-with-3, with-requires-3, loop-less-7, loop-again-7}
+use Rattle.engine.proofs.turns.Proof.Releases.{enum-known-sort-3, wide-requires-7, mul-strike, element-copy-out-strike, strike-requires, front-goes-requires, mul-struck, element-set-from-struck, loop-less-9, loop-again-9, let-in-requires, mul-book-2, element-set-from-book, grant-at-requires, mul-flight-4, element-set-from-flight-4, mul-none-4, element-set-from-none-4, cast-with-4, with-requires-4, sub-granted, loop-less-10, loop-again-10, grant-rest-requires, load-requires, loop-less-11, loop-again-11}
+use Rattle.engine.proofs.turns.Proof.Lists.{enum-told-2, asked-of-requires, wide-requires-8, mul-process-3, element-copy-out-process, onward-requires, kind-load-requires-4, loop-less-12, loop-again-12, add-weight-5, mul-flight-5, element-set-from-flight-5, mul-entries-2, element-set-from-entries-2, cast-with-5, with-requires-5, loop-less-13, loop-again-13, enum-known-sort-4, wide-requires-9, mul-book-3, element-copy-out-book-2, asked-of-requires-2, place-in-requires, closes-requires, starter-of-requires, wide-requires-10, wide-requires-11, along-leads-requires, mul-keeping, element-copy-out-keeping, keeping-requires, mul-kept, element-set-from-kept, loop-less-14, loop-again-14, grown-requires, asks-next-requires-2, kind-load-requires-5, loop-less-15, loop-again-15, add-weight-6, mul-flight-6, element-set-from-flight-6, mul-entries-3, element-set-from-entries-3, cast-with-6, with-requires-6, loop-less-16, loop-again-16}
 mod Loop
 mod Asks
 mod Takes
@@ -22,13 +22,12 @@ turns-spec =
     Inv-loop
     μ-loop
     no-entries-requires
-    load-requires
     loop-holds
     is-over-requires
     first-byte-requires
     second-byte-requires
     answer-place-requires
-    object-number-requires
+    is-at-home-requires
     wide-requires
     mul-book
     element-copy-out-book
@@ -37,13 +36,6 @@ turns-spec =
     add-i
     loop-less
     loop-again
-    top-load-requires
-    slice-write-room-2
-    add-i-2
-    loop-less-2
-    loop-again-2
-    slice-write-room-3
-    add-i-3
     book-after-requires
     mul-process
     element-set-from-process
@@ -57,15 +49,13 @@ turns-spec =
     element-set-from-none
     cast-with
     with-requires
+    loop-less-2
+    loop-again-2
+    delivery-answer-requires
+    slice-write-room-2
+    add-i-2
     loop-less-3
     loop-again-3
-    has-requires
-    slice-write-room-4
-    add-i-4
-    loop-less-4
-    loop-again-4
-    slice-write-room-5
-    add-i-5
     wide-requires-2
     mul-arrived
     element-copy-out-arrived
@@ -80,8 +70,8 @@ turns-spec =
     without-requires
     lowest-free-requires-2
     enum-told
-    loop-less-5
-    loop-again-5
+    loop-less-4
+    loop-again-4
     enum-known-sort
     wide-requires-3
     mul-old
@@ -97,8 +87,8 @@ turns-spec =
     element-set-from-none-3
     cast-with-2
     with-requires-2
-    loop-less-6
-    loop-again-6
+    loop-less-5
+    loop-again-5
     join-requires
     mul-joined
     element-set-from-joined
@@ -109,8 +99,8 @@ turns-spec =
     started-requires
     asks-next-requires
     kind-load-requires-3
-    loop-less-7
-    loop-again-7
+    loop-less-6
+    loop-again-6
     add-weight-4
     mul-flight-3
     element-set-from-flight-3
@@ -118,8 +108,8 @@ turns-spec =
     element-set-from-entries
     cast-with-3
     with-requires-3
-    loop-less-8
-    loop-again-8
+    loop-less-7
+    loop-again-7
     enum-known-sort-2
     wide-requires-6
     mul-granted
@@ -127,8 +117,8 @@ turns-spec =
     granted-requires
     mul-process-2
     element-set-from-process-2
-    loop-less-9
-    loop-again-9
+    loop-less-8
+    loop-again-8
     enum-known-sort-3
     wide-requires-7
     mul-strike
@@ -137,8 +127,8 @@ turns-spec =
     front-goes-requires
     mul-struck
     element-set-from-struck
-    loop-less-10
-    loop-again-10
+    loop-less-9
+    loop-again-9
     let-in-requires
     mul-book-2
     element-set-from-book
@@ -150,12 +140,12 @@ turns-spec =
     cast-with-4
     with-requires-4
     sub-granted
+    loop-less-10
+    loop-again-10
+    grant-rest-requires
+    load-requires
     loop-less-11
     loop-again-11
-    grant-rest-requires
-    load-requires-2
-    loop-less-12
-    loop-again-12
     enum-told-2
     asked-of-requires
     wide-requires-8
@@ -163,8 +153,8 @@ turns-spec =
     element-copy-out-process
     onward-requires
     kind-load-requires-4
-    loop-less-13
-    loop-again-13
+    loop-less-12
+    loop-again-12
     add-weight-5
     mul-flight-5
     element-set-from-flight-5
@@ -172,8 +162,8 @@ turns-spec =
     element-set-from-entries-2
     cast-with-5
     with-requires-5
-    loop-less-14
-    loop-again-14
+    loop-less-13
+    loop-again-13
     enum-known-sort-4
     wide-requires-9
     mul-book-3
@@ -190,13 +180,13 @@ turns-spec =
     keeping-requires
     mul-kept
     element-set-from-kept
-    loop-less-15
-    loop-again-15
+    loop-less-14
+    loop-again-14
     grown-requires
     asks-next-requires-2
     kind-load-requires-5
-    loop-less-16
-    loop-again-16
+    loop-less-15
+    loop-again-15
     add-weight-6
     mul-flight-6
     element-set-from-flight-6
@@ -204,8 +194,8 @@ turns-spec =
     element-set-from-entries-3
     cast-with-6
     with-requires-6
-    loop-less-17
-    loop-again-17
+    loop-less-16
+    loop-again-16
     same-length
     returns
     same-length-2

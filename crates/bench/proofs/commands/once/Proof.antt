@@ -14,8 +14,11 @@ slice-aggregate-turns c = search needs
 slice-aggregate-turns-2 : tie.Need-slice-aggregate-turns-2
 slice-aggregate-turns-2 c = search needs
 
+load-requires : tie.Need-load-requires
+load-requires c κs = search needs
+
 turns-requires : tie.Need-turns-requires
-turns-requires c κs = (c .before .before .pre, for-sheet _ 1 _ refl (omega arith))
+turns-requires c κs = (c .before .before .before .pre, for-sheet _ 1 _ refl (omega arith), c .load .ensures .0)
 
 array-read-answer-of : tie.Need-array-read-answer-of
 array-read-answer-of c = search needs
@@ -24,7 +27,7 @@ answer-of-requires : tie.Need-answer-of-requires
 answer-of-requires c κs = search needs
 
 returns : tie.Need-returns
-returns c = let w = c .before .before .before .turns .ensures .sheet refl in once-turns (c .before .before .before .before .before .before .args .b) _ (c .before .before .before .turns .result .board) _ (ap (λ (r : Ran). r .board) (w .0)) (w .1) (c .answer-of .result) (c .answer-of .ensures)
+returns c = let w = c .before .before .before .turns .ensures .sheet refl in once-turns (c .before .before .before .before .before .before .before .args .b) _ (c .before .before .before .turns .result .board) _ (ap (λ (r : Ran). r .board) (w .0)) (w .1) (c .answer-of .result) (c .answer-of .ensures)
 
 pub once-spec : {M : Type 1} → statement M
 once-spec =
@@ -32,6 +35,7 @@ once-spec =
     (tie.spec
     slice-aggregate-turns
     slice-aggregate-turns-2
+    load-requires
     turns-requires
     array-read-answer-of
     answer-of-requires

@@ -1,32 +1,35 @@
--- `engine::packed::home_answer` meets its contract: by the kind, from the answers of the two handlers. Assumes nothing.
-use mathlib.Core.Path.{ap, _∙_}
-use borrow.Author.Tests.{eq-eqb, ne-eqb}
+-- `engine::packed::home_answer` meets its contract: the answer from the book, then the load. Assumes nothing.
+use mathlib.Core.Path.{_≡_, ap, _∙_}
+use Prim.Native.Nat.{ℕ, _+_, _*_, _/_, _%_}
+use borrow.Author.Tests.{eq-eqb, ne-eqb, lt-ltb, le-ltb}
 use borrow.Author.Needs.{needs}
-use Rattle.rules.specs.Answers.{number}
-use Rattle.engine.specs.Packed.{homeAnswer}
+use Rattle.engine.specs.Packed.{bookAnswer}
 use Rattle.engine.proofs.packed.home_answer.Statement.{statement}
 use Rattle.engine.proofs.packed.home_answer.Tie as tie
 
-release-answer-requires : tie.Need-release-answer-requires
-release-answer-requires c κs = search needs
+object-number-requires : tie.Need-object-number-requires
+object-number-requires c κs = search needs
 
-number-requires : tie.Need-number-requires
-number-requires c κs = search needs
+book-answer-requires : tie.Need-book-answer-requires
+book-answer-requires c κs = search needs
+
+-- what the book answers
+asked : (d : tie.After-book-answer) → let a = d .before .before .args in d .book-answer .result ≡ bookAnswer (a .hi / 64) (a .hi / 4 % 16) (a .hi % 4 * 4 + a .lo / 64) (a .processes) (a .objects) (a .book)
+asked d =
+    let a = d .before .before .args in
+    d .book-answer .ensures ∙ ap (λ (o : ℕ). bookAnswer (a .hi / 64) (a .hi / 4 % 16) o (a .processes) (a .objects) (a .book)) (d .before .object-number .ensures .0)
 
 returns : tie.Need-returns
-unfolding homeAnswer
-returns c = rw (eq-eqb _ 2 (c .before .before .match .keys1)) (c .number .ensures ∙ ap number (c .before .release-answer .ensures))
+returns c = rw (← asked (c .before), ne-eqb _ 0 (c .if1 .taken))
 
-request-answer-requires : tie.Need-request-answer-requires
-request-answer-requires c κs = search needs
-
-number-requires-2 : tie.Need-number-requires-2
-number-requires-2 c κs = search needs
+top-load-requires : tie.Need-top-load-requires
+top-load-requires c κs = search needs
 
 returns-2 : tie.Need-returns-2
-unfolding homeAnswer
-returns-2 c = rw (ne-eqb _ 2 (c .before .before .match .rest .1)) (c .number2 .ensures ∙ ap number (c .before .request-answer .ensures))
+returns-2 c = rw (← asked (c .before .before .before), eq-eqb _ 0 (c .before .before .if1 .left), ← c .before .top-load .ensures, lt-ltb _ _ (c .if2 .taken))
+
+returns-3 : tie.Need-returns-3
+returns-3 c = rw (← asked (c .before .before .before), eq-eqb _ 0 (c .before .before .if1 .left), ← c .before .top-load .ensures, le-ltb _ _ (c .if2 .left))
 
 pub home-answer-spec : {M : Type 1} → statement M
-home-answer-spec =
-    tie.close (tie.spec release-answer-requires number-requires request-answer-requires number-requires-2 returns returns-2)
+home-answer-spec = tie.close (tie.spec object-number-requires book-answer-requires returns top-load-requires returns-2 returns-3)

@@ -1,8 +1,9 @@
--- A turn of a request or a release: refused by its home, refused by the load, or made and sent.
+-- A turn of a request or a release: refused, or made and sent.
 use mathlib.Core.Path.{_≡_, refl, sym, ap, _∙_}
 use Prim.Native.Nat.{ℕ, _+_, _*_, _/_, _%_, _<_}
 use native.Mathlib.Omega.{arith}
 use borrow.Author.Needs.{needs}
+use borrow.Author.Tests.{ltb-true}
 use lib.ListN.{getD}
 use Rattle.rules.specs.declared.Board.{Board}
 use Rattle.rules.specs.declared.Process.{Process}
@@ -14,7 +15,22 @@ use Rattle.engine.specs.Packed.{topLoad}
 use Rattle.engine.proofs.Sends.{sent-here}
 use Rattle.engine.proofs.Turn.{HomeWays, made, home-ways, makes, sent-counts, top-most}
 use Rattle.engine.proofs.turns.Tie as tie
-use Rattle.engine.proofs.turns.Proof.Loop.{Inv-loop, μ-loop, Turn, boardNow, weightNow, hiOf, loOf, going, ready, weight-most, less, again, place-small}
+use Rattle.engine.proofs.turns.Proof.Loop.{Inv-loop, μ-loop, Turn, boardNow, weightNow, hiOf, loOf, noneNow, none-now, going, ready, weight-most, less, again, place-small}
+
+pub is-at-home-requires : tie.Need-is-at-home-requires Inv-loop μ-loop
+is-at-home-requires c κs = search needs
+
+pub wide-requires : tie.Need-wide-requires Inv-loop μ-loop
+wide-requires c κs = search needs
+
+pub mul-book : tie.Need-mul-book Inv-loop μ-loop
+mul-book c = search needs
+
+pub element-copy-out-book : tie.Need-element-copy-out-book Inv-loop μ-loop
+element-copy-out-book c = search needs
+
+pub home-answer-requires : tie.Need-home-answer-requires Inv-loop μ-loop
+home-answer-requires c κs = search needs
 
 -- ---- the book is read, and its home has answered
 abbrev Asked : Type 0
@@ -35,6 +51,9 @@ objectOf a = hiOf (turnOf a) % 4 * 4 + loOf (turnOf a) / 64
 abbrev bookOf : Asked → Process
 bookOf a = getD (boardNow (turnOf a) .processes) (a .before .before .wide .result) noProcess
 
+at-home : (a : Asked) → kindOf a < 3
+at-home a = ltb-true (kindOf a) 3 (sym (a .before .before .before .before .is-at-home .ensures) ∙ a .before .before .before .if2 .taken)
+
 book-is : (a : Asked) → bookOf a ≡ processAt (boardNow (turnOf a)) (processOf a)
 book-is a = ap (λ (i : ℕ). getD (boardNow (turnOf a) .processes) i noProcess) (a .before .before .wide .ensures .0)
 
@@ -42,31 +61,17 @@ abbrev madeOf : Asked → Board
 madeOf a = made (boardNow (turnOf a)) (processOf a) (objectOf a) (hiOf (turnOf a) % 64) (kindOf a)
 
 ways : (a : Asked) → HomeWays (boardNow (turnOf a)) (ofBytes (hiOf (turnOf a)) (loOf (turnOf a))) (a .home-answer .result) (topLoad (kindOf a)) (weightNow (turnOf a)) (madeOf a)
-ways a = home-ways (boardNow (turnOf a)) (processOf a) (objectOf a) (hiOf (turnOf a) % 64) (kindOf a) (a .before .before .before .before .if2 .taken) (bookOf a) (a .home-answer .result) (a .before .before .before .object-number .result) (book-is a) (a .before .before .before .object-number .ensures .0) (a .home-answer .ensures) (weightNow (turnOf a)) (going (turnOf a) .weight)
-
-pub object-number-requires : tie.Need-object-number-requires Inv-loop μ-loop
-object-number-requires c κs = search needs
-
-pub wide-requires : tie.Need-wide-requires Inv-loop μ-loop
-wide-requires c κs = search needs
-
-pub mul-book : tie.Need-mul-book Inv-loop μ-loop
-mul-book c = search needs
-
-pub element-copy-out-book : tie.Need-element-copy-out-book Inv-loop μ-loop
-element-copy-out-book c = search needs
-
-pub home-answer-requires : tie.Need-home-answer-requires Inv-loop μ-loop
-home-answer-requires c κs = search needs
+ways a = home-ways (boardNow (turnOf a)) (processOf a) (objectOf a) (hiOf (turnOf a) % 64) (kindOf a) (at-home a) (bookOf a) (book-is a) (weightNow (turnOf a)) (going (turnOf a) .weight) (a .home-answer .result) (a .home-answer .ensures)
 
 pub slice-write-room : tie.Need-slice-write-room Inv-loop μ-loop
-slice-write-room c = omega (arith, place-small (c .before .before .before .before .before .before))
+slice-write-room c = omega (arith, place-small (turnOf c))
 
 pub add-i : tie.Need-add-i Inv-loop μ-loop
 add-i c = search needs
 
+-- it is refused
 pub loop-less : tie.Need-loop-less Inv-loop μ-loop
-loop-less c = less (c .before .before .before .before .before .before)
+loop-less c = less (turnOf (c .before))
 
 pub loop-again : tie.Need-loop-again Inv-loop μ-loop
 loop-again c =
@@ -74,40 +79,15 @@ loop-again c =
     let b = boardNow (turnOf a) in
     again (turnOf a) (a .home-answer .result) b (ways a .refused (c .if3 .taken)) b (weightNow (turnOf a)) (record { board = refl; weight = going (turnOf a) .weight })
 
--- ---- the home has nothing against it: the load decides
-abbrev Weighed : Type 0
-Weighed = tie.After-top-load Inv-loop μ-loop
-
-pub top-load-requires : tie.Need-top-load-requires Inv-loop μ-loop
-top-load-requires c κs = search needs
-
-pub slice-write-room-2 : tie.Need-slice-write-room-2 Inv-loop μ-loop
-slice-write-room-2 c = omega (arith, place-small (c .before .before .before .before .before .before .before .before))
-
-pub add-i-2 : tie.Need-add-i-2 Inv-loop μ-loop
-add-i-2 c = search needs
-
-pub loop-less-2 : tie.Need-loop-less-2 Inv-loop μ-loop
-loop-less-2 c = less (c .before .before .before .before .before .before .before .before)
-
-pub loop-again-2 : tie.Need-loop-again-2 Inv-loop μ-loop
-loop-again-2 c =
-    let a = c .before .before .before in
-    let b = boardNow (turnOf a) in
-    again (turnOf a) 10 b (ways a .heavy (c .before .before .if3 .left) (c .before .top-load .result) (c .before .top-load .ensures) (c .if4 .taken)) b (weightNow (turnOf a)) (record { board = refl; weight = going (turnOf a) .weight })
-
-pub slice-write-room-3 : tie.Need-slice-write-room-3 Inv-loop μ-loop
-slice-write-room-3 c = omega (arith, place-small (c .before .before .before .before .before .before .before .before))
-
-pub add-i-3 : tie.Need-add-i-3 Inv-loop μ-loop
-add-i-3 c = search needs
-
 -- ---- made: the book is written, and the message takes a free number
 abbrev Sent : Type 0
 Sent = tie.After-lowest-free Inv-loop μ-loop
 
 to-small : (d : Sent) → d .lowest-free .result < 64
-to-small d = let e = d .before .before .before .before .before .before .before .before .before .before in omega (arith, d .lowest-free .ensures .0, room-below (boardNow e) (ready e .matched) (omega (arith, going e .weight, d .before .before .if4 .left, d .before .before .before .top-load .ensures, top-most (hiOf e / 64))))
+to-small d =
+    let a = d .before .before .before in
+    let e = turnOf a in
+    omega (arith, d .lowest-free .ensures .0, room-below (boardNow e) (ready e .matched) (omega (arith, going e .weight, ways a .light (d .before .before .if3 .left), top-most (hiOf e / 64))))
 
 pub book-after-requires : tie.Need-book-after-requires Inv-loop μ-loop
 book-after-requires c κs = search needs
@@ -128,7 +108,7 @@ pub kind-load-requires : tie.Need-kind-load-requires Inv-loop μ-loop
 kind-load-requires c κs = search needs
 
 pub add-weight : tie.Need-add-weight Inv-loop μ-loop
-add-weight c = omega (arith, weight-most (c .before .before .before .before .before .before .before .before .before .before .before .before), c .kind-load .ensures .1)
+add-weight c = omega (arith, weight-most (turnOf (c .before .before .before .before .before)), c .kind-load .ensures .1)
 
 pub mul-flight : tie.Need-mul-flight Inv-loop μ-loop
 mul-flight c = search needs
@@ -148,17 +128,18 @@ cast-with c = search needs
 pub with-requires : tie.Need-with-requires Inv-loop μ-loop
 with-requires c κs = omega (arith, to-small (c .before .before))
 
-pub loop-less-3 : tie.Need-loop-less-3 Inv-loop μ-loop
-loop-less-3 c = less (c .before .before .before .before .before .before .before .before .before .before .before .before .before)
+pub loop-less-2 : tie.Need-loop-less-2 Inv-loop μ-loop
+loop-less-2 c = less (turnOf (c .before .before .before .before .before .before))
 
-pub loop-again-3 : tie.Need-loop-again-3 Inv-loop μ-loop
-loop-again-3 c =
-    let a = c .before .before .before .before .before .before .before .before in
+pub loop-again-2 : tie.Need-loop-again-2 Inv-loop μ-loop
+loop-again-2 c =
+    let d = c .before .before .before in
+    let a = d .before .before .before in
     let b = boardNow (turnOf a) in
-    let y = putProcess b (a .before .before .wide .result) (c .before .before .before .before .book-after .result) in
-    let m : Message = record { kind = c .before .before .kind-sent .result; list = c .before .before .before .before .before .before .before .before .before .before .before .before .before .before .before .before .before .before .before .before .before .no-entries .result } in
-    again (turnOf a) 0 (madeOf a) (ways a .light (c .before .before .before .before .before .before .before .if3 .left) (c .before .before .before .before .before .before .top-load .result) (c .before .before .before .before .before .before .top-load .ensures) (c .before .before .before .before .before .if4 .left)) _ _
-    (sent-here y (weightNow (turnOf a)) (going (turnOf a) .weight ∙ sym (load-process b (a .before .before .wide .result) (c .before .before .before .before .book-after .result))) m (c .before .kind-load .result) (c .before .kind-load .ensures .0) (madeOf a)
-    (makes b (processOf a) (objectOf a) (hiOf (turnOf a) % 64) (kindOf a) (a .before .before .before .before .if2 .taken) (bookOf a) (a .home-answer .result) (a .before .before .before .object-number .result) (book-is a) (a .before .before .before .object-number .ensures .0) (a .home-answer .ensures) (a .before .before .wide .result) (c .before .before .before .before .book-after .result) (c .before .before .kind-sent .result) (c .before .before .before .before .before .before .before .before .before .before .before .before .before .before .before .before .before .before .before .before .before .no-entries .result) (a .before .before .wide .ensures .0) (c .before .before .before .before .book-after .ensures) (c .before .before .kind-sent .ensures) (c .before .before .before .before .before .before .before .before .before .before .before .before .before .before .before .before .before .before .before .before .before .no-entries .ensures))
-    (ready (turnOf a) .ranged .flights) (ready (turnOf a) .matched) (c .before .before .before .lowest-free .result) (c .with .result) (c .before .before .before .lowest-free .ensures .0) (c .with .ensures) (to-small (c .before .before .before))
-    (λ z. sent-counts (kindOf a) (processOf a) (a .before .before .before .object-number .result) (sym (ap kindLoad (c .before .before .kind-sent .ensures)) ∙ sym (c .before .kind-load .ensures .0) ∙ z)))
+    let y = putProcess b (a .before .before .wide .result) (d .before .book-after .result) in
+    let m : Message = record { kind = c .before .before .kind-sent .result; list = noneNow (turnOf a) } in
+    again (turnOf a) (a .home-answer .result) (madeOf a) (ways a .accepted (d .before .before .if3 .left)) _ _
+    (sent-here y (weightNow (turnOf a)) (going (turnOf a) .weight ∙ sym (load-process b (a .before .before .wide .result) (d .before .book-after .result))) m (c .before .kind-load .result) (c .before .kind-load .ensures .0) (madeOf a)
+    (makes b (processOf a) (objectOf a) (hiOf (turnOf a) % 64) (kindOf a) (at-home a) (bookOf a) (book-is a) (weightNow (turnOf a)) (going (turnOf a) .weight) (a .before .before .wide .result) (d .before .book-after .result) (c .before .before .kind-sent .result) (noneNow (turnOf a)) (a .before .before .wide .ensures .0) (d .before .book-after .ensures) (c .before .before .kind-sent .ensures) (none-now (turnOf a)))
+    (ready (turnOf a) .ranged .flights) (ready (turnOf a) .matched) (d .lowest-free .result) (c .with .result) (d .lowest-free .ensures .0) (c .with .ensures) (to-small d)
+    (λ z. sent-counts (kindOf a) (processOf a) (objectOf a) (sym (ap kindLoad (c .before .before .kind-sent .ensures)) ∙ sym (c .before .kind-load .ensures .0) ∙ z)))

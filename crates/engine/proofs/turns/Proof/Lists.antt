@@ -18,8 +18,8 @@ use Rattle.rules.proofs.Load.{load-ring}
 use Rattle.engine.proofs.Sends.{read-at, sent-none, sent-here}
 use Rattle.engine.proofs.Arrivals.{list-at-home, no-ring, ring-found}
 use Rattle.engine.proofs.turns.Tie as tie
-use Rattle.engine.proofs.turns.Proof.Loop.{Inv-loop, μ-loop, ready, less, again}
-use Rattle.engine.proofs.turns.Proof.Takes.{Took, turnTook, before, numOf, toOf, listOf, freedNow, weightLeft, kind-is, kind-ranged, list-is, list-ranged, freed-is, freed-matched, freed-flights, weight-left, left-most, to-small, taking}
+use Rattle.engine.proofs.turns.Proof.Loop.{Inv-loop, μ-loop, ready, less}
+use Rattle.engine.proofs.turns.Proof.Takes.{Took, turnTook, before, numOf, toOf, listOf, freedNow, weightLeft, kind-is, kind-ranged, list-is, list-ranged, freed-is, freed-matched, freed-flights, weight-left, left-most, to-small, ends}
 
 -- ---- at the home of its next entry
 pub enum-told-2 : tie.Need-enum-told-2 Inv-loop μ-loop
@@ -57,15 +57,15 @@ home-arrives d =
 pub kind-load-requires-4 : tie.Need-kind-load-requires-4 Inv-loop μ-loop
 kind-load-requires-4 c κs = search needs
 
-pub loop-less-13 : tie.Need-loop-less-13 Inv-loop μ-loop
-loop-less-13 c = less (c .before .before .before .before .before .before .before .before .before .before .before .before .before .before .before .before .before)
+pub loop-less-12 : tie.Need-loop-less-12 Inv-loop μ-loop
+loop-less-12 c = less (turnTook (c .before .before .before .before .before .before .before .before))
 
-pub loop-again-13 : tie.Need-loop-again-13 Inv-loop μ-loop
-loop-again-13 c =
+pub loop-again-12 : tie.Need-loop-again-12 Inv-loop μ-loop
+loop-again-12 c =
     let d = c .before .before in
     let t = c .before .before .before .before .before .before .before .before in
-    again (turnTook t) 0 (delivered (before t) (numOf t)) (taking t) (freedNow t) (weightLeft t)
-    (sent-none (freedNow t) (weightLeft t) (weight-left t) (sentHome d) (c .before .kind-load4 .result) (c .before .kind-load4 .ensures .0) (delivered (before t) (numOf t)) (home-arrives d) (c .if10 .taken))
+    ends t (freedNow t) (weightLeft t)
+    (sent-none (freedNow t) (weightLeft t) (weight-left t) (sentHome d) (c .before .kind-load4 .result) (c .before .kind-load4 .ensures .0) (delivered (before t) (numOf t)) (home-arrives d) (c .if9 .taken))
 
 pub add-weight-5 : tie.Need-add-weight-5 Inv-loop μ-loop
 add-weight-5 c = omega (arith, left-most (c .before .before .before .before .before .before .before .before), c .before .kind-load4 .ensures .1)
@@ -88,16 +88,16 @@ cast-with-5 c = search needs
 pub with-requires-5 : tie.Need-with-requires-5 Inv-loop μ-loop
 with-requires-5 c κs = omega (arith, to-small (c .before .before .before .before .before .before .before .before))
 
-pub loop-less-14 : tie.Need-loop-less-14 Inv-loop μ-loop
-loop-less-14 c = less (c .before .before .before .before .before .before .before .before .before .before .before .before .before .before .before .before .before .before)
+pub loop-less-13 : tie.Need-loop-less-13 Inv-loop μ-loop
+loop-less-13 c = less (turnTook (c .before .before .before .before .before .before .before .before .before))
 
-pub loop-again-14 : tie.Need-loop-again-14 Inv-loop μ-loop
-loop-again-14 c =
+pub loop-again-13 : tie.Need-loop-again-13 Inv-loop μ-loop
+loop-again-13 c =
     let d = c .before .before .before in
     let t = c .before .before .before .before .before .before .before .before .before in
-    again (turnTook t) 0 (delivered (before t) (numOf t)) (taking t) _ _
+    ends t _ _
     (sent-here (freedNow t) (weightLeft t) (weight-left t) (sentHome d) (c .before .before .kind-load4 .result) (c .before .before .kind-load4 .ensures .0) (delivered (before t) (numOf t)) (home-arrives d)
-    (freed-flights t) (freed-matched t) (toOf t) (c .with5 .result) (t .lowest-free2 .ensures .0) (c .with5 .ensures) (to-small t) (c .before .if10 .left))
+    (freed-flights t) (freed-matched t) (toOf t) (c .with5 .result) (t .lowest-free2 .ensures .0) (c .with5 .ensures) (to-small t) (c .before .if9 .left))
 
 -- ---- at an object
 pub enum-known-sort-4 : tie.Need-enum-known-sort-4 Inv-loop μ-loop
@@ -186,20 +186,20 @@ mul-kept c = search needs
 pub element-set-from-kept : tie.Need-element-set-from-kept Inv-loop μ-loop
 element-set-from-kept c = omega (arith, starter-small (c .before .before .before .before))
 
-pub loop-less-15 : tie.Need-loop-less-15 Inv-loop μ-loop
-loop-less-15 c = less (c .before .before .before .before .before .before .before .before .before .before .before .before .before .before .before .before .before .before .before .before .before .before .before .before)
+pub loop-less-14 : tie.Need-loop-less-14 Inv-loop μ-loop
+loop-less-14 c = less (turnTook (c .before .before .before .before .before .before .before .before .before .before .before .before .before .before .before))
 
-pub loop-again-15 : tie.Need-loop-again-15 Inv-loop μ-loop
-loop-again-15 c =
+pub loop-again-14 : tie.Need-loop-again-14 Inv-loop μ-loop
+loop-again-14 c =
     let t = c .before .before .before .before .before .before .before .before .before .before .before .before .before .before .before in
     let h = c .before .before .before .before .before .before .before .before .before .before in
     let d = c .before .before .before .before .before .before .before in
     let f = c .before .before .before .before in
     let s = f .wide10 in
     let l = listOf t in
-    again (turnTook t) 0 (delivered (before t) (numOf t)) (taking t) (putRing (freedNow t) (s .result) (c .keeping .result)) (weightLeft t)
+    ends t (putRing (freedNow t) (s .result) (c .keeping .result)) (weightLeft t)
     (record {
-      board = ring-found (before t) (numOf t) (freedNow t) (freed-is t) l (list-is t) (h .before .before .before .sort4 .given .0 .0) (kind-is t _ (h .before .before .before .sort4 .given .1)) (oldOf h) (old-is h) (d .before .place-in .result) (place-is d) (d .closes .result) (d .closes .ensures) (c .before .before .before .before .before .before .if11 .taken)
+      board = ring-found (before t) (numOf t) (freedNow t) (freed-is t) l (list-is t) (h .before .before .before .sort4 .given .0 .0) (kind-is t _ (h .before .before .before .sort4 .given .1)) (oldOf h) (old-is h) (d .before .place-in .result) (place-is d) (d .closes .result) (d .closes .ensures) (c .before .before .before .before .before .before .if10 .taken)
           (s .result) (c .before .before .along-leads .result) (c .keeping .result) (getD (before t .rings) (s .result) (record { processes = []; count = 0 })) (s .ensures .0 ∙ f .before .starter-of .ensures .0)
           (c .before .before .along-leads .ensures ∙ ap (λ (k : ℕ). ringOf (alongLeads k l k)) (c .before .before .before .wide11 .ensures .0))
           (read-at (before t .rings) (s .result) (s .result) _ noRing refl (omega (arith, ready (turnTook t) .ranged .rings, starter-small f))) (c .keeping .ensures);
@@ -228,20 +228,20 @@ object-arrives a =
     let h = a .before .before .before .before .before .before in
     let t = a .before .before .before .before .before .before .before .before .before .before .before in
     ap (λ (k : Kind). send (freedNow t) (record { kind = k; list = a .before .grown .result })) (a .asks-next2 .ensures)
-    ∙ no-ring (before t) (numOf t) (freedNow t) (freed-is t) (listOf t) (list-is t) (h .before .before .before .sort4 .given .0 .0) (kind-is t _ (h .before .before .before .sort4 .given .1)) (oldOf h) (old-is h) (d .before .place-in .result) (place-is d) (d .closes .result) (d .closes .ensures) (a .before .before .if11 .left) (a .before .grown .result) (a .before .grown .ensures)
+    ∙ no-ring (before t) (numOf t) (freedNow t) (freed-is t) (listOf t) (list-is t) (h .before .before .before .sort4 .given .0 .0) (kind-is t _ (h .before .before .before .sort4 .given .1)) (oldOf h) (old-is h) (d .before .place-in .result) (place-is d) (d .closes .result) (d .closes .ensures) (a .before .before .if10 .left) (a .before .grown .result) (a .before .grown .ensures)
 
 pub kind-load-requires-5 : tie.Need-kind-load-requires-5 Inv-loop μ-loop
 kind-load-requires-5 c κs = search needs
 
-pub loop-less-16 : tie.Need-loop-less-16 Inv-loop μ-loop
-loop-less-16 c = less (c .before .before .before .before .before .before .before .before .before .before .before .before .before .before .before .before .before .before .before .before .before .before)
+pub loop-less-15 : tie.Need-loop-less-15 Inv-loop μ-loop
+loop-less-15 c = less (turnTook (c .before .before .before .before .before .before .before .before .before .before .before .before .before))
 
-pub loop-again-16 : tie.Need-loop-again-16 Inv-loop μ-loop
-loop-again-16 c =
+pub loop-again-15 : tie.Need-loop-again-15 Inv-loop μ-loop
+loop-again-15 c =
     let a = c .before .before in
     let t = c .before .before .before .before .before .before .before .before .before .before .before .before .before in
-    again (turnTook t) 0 (delivered (before t) (numOf t)) (taking t) (freedNow t) (weightLeft t)
-    (sent-none (freedNow t) (weightLeft t) (weight-left t) (sent a) (c .before .kind-load5 .result) (c .before .kind-load5 .ensures .0) (delivered (before t) (numOf t)) (object-arrives a) (c .if12 .taken))
+    ends t (freedNow t) (weightLeft t)
+    (sent-none (freedNow t) (weightLeft t) (weight-left t) (sent a) (c .before .kind-load5 .result) (c .before .kind-load5 .ensures .0) (delivered (before t) (numOf t)) (object-arrives a) (c .if11 .taken))
 
 pub add-weight-6 : tie.Need-add-weight-6 Inv-loop μ-loop
 add-weight-6 c = omega (arith, left-most (c .before .before .before .before .before .before .before .before .before .before .before .before .before), c .before .kind-load5 .ensures .1)
@@ -264,13 +264,13 @@ cast-with-6 c = search needs
 pub with-requires-6 : tie.Need-with-requires-6 Inv-loop μ-loop
 with-requires-6 c κs = omega (arith, to-small (c .before .before .before .before .before .before .before .before .before .before .before .before .before))
 
-pub loop-less-17 : tie.Need-loop-less-17 Inv-loop μ-loop
-loop-less-17 c = less (c .before .before .before .before .before .before .before .before .before .before .before .before .before .before .before .before .before .before .before .before .before .before .before)
+pub loop-less-16 : tie.Need-loop-less-16 Inv-loop μ-loop
+loop-less-16 c = less (turnTook (c .before .before .before .before .before .before .before .before .before .before .before .before .before .before))
 
-pub loop-again-17 : tie.Need-loop-again-17 Inv-loop μ-loop
-loop-again-17 c =
+pub loop-again-16 : tie.Need-loop-again-16 Inv-loop μ-loop
+loop-again-16 c =
     let a = c .before .before .before in
     let t = c .before .before .before .before .before .before .before .before .before .before .before .before .before .before in
-    again (turnTook t) 0 (delivered (before t) (numOf t)) (taking t) _ _
+    ends t _ _
     (sent-here (freedNow t) (weightLeft t) (weight-left t) (sent a) (c .before .before .kind-load5 .result) (c .before .before .kind-load5 .ensures .0) (delivered (before t) (numOf t)) (object-arrives a)
-    (freed-flights t) (freed-matched t) (toOf t) (c .with6 .result) (t .lowest-free2 .ensures .0) (c .with6 .ensures) (to-small t) (c .before .if12 .left))
+    (freed-flights t) (freed-matched t) (toOf t) (c .with6 .result) (t .lowest-free2 .ensures .0) (c .with6 .ensures) (to-small t) (c .before .if11 .left))

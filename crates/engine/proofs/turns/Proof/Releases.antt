@@ -19,8 +19,8 @@ use Rattle.engine.proofs.Arrivals.{release-arrives}
 use Rattle.engine.proofs.Granting.{one-let-in}
 use Rattle.engine.proofs.Releases.{line-is, struck-line, none-granted, LetIn, first-granted}
 use Rattle.engine.proofs.turns.Tie as tie
-use Rattle.engine.proofs.turns.Proof.Loop.{Inv-loop, μ-loop, ready, less, again}
-use Rattle.engine.proofs.turns.Proof.Takes.{Took, turnTook, before, numOf, toOf, noneOf, none-is, freedNow, weightLeft, kind-is, kind-ranged, freed-is, freed-matched, freed-flights, weight-left, to-small, taking}
+use Rattle.engine.proofs.turns.Proof.Loop.{Inv-loop, μ-loop, ready, less}
+use Rattle.engine.proofs.turns.Proof.Takes.{Took, turnTook, before, numOf, toOf, noneOf, none-is, freedNow, weightLeft, kind-is, kind-ranged, freed-is, freed-matched, freed-flights, weight-left, to-small, ends}
 
 pub enum-known-sort-3 : tie.Need-enum-known-sort-3 Inv-loop μ-loop
 enum-known-sort-3 c = search needs
@@ -86,16 +86,16 @@ mul-struck c = search needs
 pub element-set-from-struck : tie.Need-element-set-from-struck Inv-loop μ-loop
 element-set-from-struck c = omega (arith, index-small (c .before .before))
 
-pub loop-less-10 : tie.Need-loop-less-10 Inv-loop μ-loop
-loop-less-10 c = less (c .before .before .before .before .before .before .before .before .before .before .before .before .before .before .before .before .before)
+pub loop-less-9 : tie.Need-loop-less-9 Inv-loop μ-loop
+loop-less-9 c = less (turnTook (c .before .before .before .before .before .before .before .before))
 
 -- ---- nobody is let in
-pub loop-again-10 : tie.Need-loop-again-10 Inv-loop μ-loop
-loop-again-10 c =
+pub loop-again-9 : tie.Need-loop-again-9 Inv-loop μ-loop
+loop-again-9 c =
     let d = c .before .before in
     let t = c .before .before .before .before .before .before .before .before in
-    again (turnTook t) 0 (delivered (before t) (numOf t)) (taking t) _ (weightLeft t)
-    (none-granted (freedNow t) (weightLeft t) (weight-left t) (d .before .before .wide7 .result) (index-small d) (ready (turnTook t) .ranged .objects) (d .strike .result) (same-count d) (delivered (before t) (numOf t)) (arrives d) (sym (c .before .front-goes .ensures) ∙ not-true _ (c .if8 .taken)))
+    ends t _ (weightLeft t)
+    (none-granted (freedNow t) (weightLeft t) (weight-left t) (d .before .before .wide7 .result) (index-small d) (ready (turnTook t) .ranged .objects) (d .strike .result) (same-count d) (delivered (before t) (numOf t)) (arrives d) (sym (c .before .front-goes .ensures) ∙ not-true _ (c .if7 .taken)))
 
 -- ---- all go in who can
 pub let-in-requires : tie.Need-let-in-requires Inv-loop μ-loop
@@ -136,7 +136,7 @@ abbrev tookFirst : First → Took
 tookFirst g = g .before .before .before .before .before .before .before .before .before .before .before
 
 goes : (g : First) → frontGoes (g .before .before .before .before .before .strike .result) ≡ true
-goes g = sym (g .before .before .before .before .front-goes .ensures) ∙ not-false _ (g .before .before .before .if8 .left)
+goes g = sym (g .before .before .before .before .front-goes .ensures) ∙ not-false _ (g .before .before .before .if7 .left)
 
 pub sub-granted : tie.Need-sub-granted Inv-loop μ-loop
 sub-granted c =
@@ -158,28 +158,28 @@ first g =
     (freed-flights t) (freed-matched t) (toOf t) (g .with4 .result) (t .lowest-free2 .ensures .0) (g .with4 .ensures) (to-small t)
 
 -- it is the only one
-pub loop-less-11 : tie.Need-loop-less-11 Inv-loop μ-loop
-loop-less-11 c = less (turnTook (tookFirst (c .before .before .before)))
+pub loop-less-10 : tie.Need-loop-less-10 Inv-loop μ-loop
+loop-less-10 c = less (turnTook (tookFirst (c .before .before .before)))
 
-pub loop-again-11 : tie.Need-loop-again-11 Inv-loop μ-loop
-loop-again-11 c =
+pub loop-again-10 : tie.Need-loop-again-10 Inv-loop μ-loop
+loop-again-10 c =
     let g = c .before .before .before in
     let t = tookFirst g in
-    again (turnTook t) 0 (delivered (before t) (numOf t)) (taking t) _ (weightLeft t) (first g .ends (c .if9 .taken))
+    ends t _ (weightLeft t) (first g .ends (c .if8 .taken))
 
 -- the others are sent theirs
 pub grant-rest-requires : tie.Need-grant-rest-requires Inv-loop μ-loop
 grant-rest-requires c κs = omega (arith, struck-ranged (c .before .before .before .before .before .before .before .before) .count)
 
-pub load-requires-2 : tie.Need-load-requires-2 Inv-loop μ-loop
-load-requires-2 c κs = search needs
+pub load-requires : tie.Need-load-requires Inv-loop μ-loop
+load-requires c κs = search needs
 
-pub loop-less-12 : tie.Need-loop-less-12 Inv-loop μ-loop
-loop-less-12 c = less (turnTook (tookFirst (c .before .before .before .before .before)))
+pub loop-less-11 : tie.Need-loop-less-11 Inv-loop μ-loop
+loop-less-11 c = less (turnTook (tookFirst (c .before .before .before .before .before)))
 
-pub loop-again-12 : tie.Need-loop-again-12 Inv-loop μ-loop
-loop-again-12 c =
+pub loop-again-11 : tie.Need-loop-again-11 Inv-loop μ-loop
+loop-again-11 c =
     let g = c .before .before .before .before .before in
     let t = tookFirst g in
-    again (turnTook t) 0 (delivered (before t) (numOf t)) (taking t) (c .before .grant-rest .result) (c .load2 .result)
-    (first g .goes (c .before .grant-rest .result) (c .load2 .result) (c .before .grant-rest .ensures) (c .load2 .ensures .0))
+    ends t (c .before .grant-rest .result) (c .load .result)
+    (first g .goes (c .before .grant-rest .result) (c .load .result) (c .before .grant-rest .ensures) (c .load .ensures .0))

@@ -16,8 +16,8 @@ use Rattle.rules.specs.Ranges.{LineRanged}
 use Rattle.engine.proofs.Sends.{read-at, sent-none, sent-here, same-line, object-fits, object-weight}
 use Rattle.engine.proofs.Arrivals.{request-granted, request-joins}
 use Rattle.engine.proofs.turns.Tie as tie
-use Rattle.engine.proofs.turns.Proof.Loop.{Inv-loop, μ-loop, ready, less, again}
-use Rattle.engine.proofs.turns.Proof.Takes.{Took, turnTook, before, numOf, toOf, noneOf, none-is, freedNow, weightLeft, kind-is, kind-ranged, freed-is, freed-matched, freed-flights, weight-left, left-most, to-small, taking}
+use Rattle.engine.proofs.turns.Proof.Loop.{Inv-loop, μ-loop, ready, less}
+use Rattle.engine.proofs.turns.Proof.Takes.{Took, turnTook, before, numOf, toOf, noneOf, none-is, freedNow, weightLeft, kind-is, kind-ranged, freed-is, freed-matched, freed-flights, weight-left, left-most, to-small, ends}
 
 pub enum-known-sort : tie.Need-enum-known-sort Inv-loop μ-loop
 enum-known-sort c = search needs
@@ -109,18 +109,18 @@ cast-with-2 c = search needs
 pub with-requires-2 : tie.Need-with-requires-2 Inv-loop μ-loop
 with-requires-2 c κs = omega (arith, to-small (c .before .before .before .before .before .before .before .before))
 
-pub loop-less-6 : tie.Need-loop-less-6 Inv-loop μ-loop
-loop-less-6 c = less (c .before .before .before .before .before .before .before .before .before .before .before .before .before .before .before .before .before .before)
+pub loop-less-5 : tie.Need-loop-less-5 Inv-loop μ-loop
+loop-less-5 c = less (turnTook (c .before .before .before .before .before .before .before .before .before))
 
-pub loop-again-6 : tie.Need-loop-again-6 Inv-loop μ-loop
-loop-again-6 c =
+pub loop-again-5 : tie.Need-loop-again-5 Inv-loop μ-loop
+loop-again-5 c =
     let d = c .before in
     let t = c .before .before .before .before .before .before .before .before .before in
     let h = c .before .before .before .before in
     let g = c .before .before .before .before .before .before .before .sort .given in
-    again (turnTook t) 0 (delivered (before t) (numOf t)) (taking t) _ _
+    ends t _ _
     (sent-here (wroteHeld d) (weightLeft t) (weight-held d) (record { kind = Grant (g .0 .0) (g .0 .1 .0) (g .0 .1 .1 .0); list = noneOf t }) 1 refl (delivered (before t) (numOf t))
-    (request-granted (before t) (numOf t) (freedNow t) (freed-is t) (g .0 .0) (g .0 .1 .0) (g .0 .1 .1 .0) (kind-is t _ (g .1)) (h .before .wide3 .result) (oldOf h) (d .hold .result) (h .before .wide3 .ensures .0) (old-is h) (c .before .before .before .is-welcome .result) (c .before .before .before .is-welcome .ensures) (c .before .before .if6 .taken) (d .hold .ensures) (noneOf t) (none-is t))
+    (request-granted (before t) (numOf t) (freedNow t) (freed-is t) (g .0 .0) (g .0 .1 .0) (g .0 .1 .1 .0) (kind-is t _ (g .1)) (h .before .wide3 .result) (oldOf h) (d .hold .result) (h .before .wide3 .ensures .0) (old-is h) (c .before .before .before .is-welcome .result) (c .before .before .before .is-welcome .ensures) (c .before .before .if5 .taken) (d .hold .ensures) (noneOf t) (none-is t))
     (freed-flights t) (freed-matched t) (toOf t) (c .with2 .result) (t .lowest-free2 .ensures .0) (c .with2 .ensures) (to-small t) (λ z. omega (arith, z)))
 
 -- ---- it joins the line: the load changes with the line
@@ -188,22 +188,22 @@ arrives a =
     let h = a .before .before .before .before .before .before .before in
     let g = a .before .before .before .before .before .before .before .before .before .before .sort .given in
     ap (λ (k : Kind). send (wrote d) (record { kind = k; list = a .before .started .result })) (a .asks-next .ensures)
-    ∙ request-joins (before t) (numOf t) (freedNow t) (freed-is t) (g .0 .0) (g .0 .1 .0) (g .0 .1 .1 .0) (kind-is t _ (g .1)) (h .before .wide3 .result) (oldOf h) (d .before .before .join .result) (h .before .wide3 .ensures .0) (old-is h) (a .before .before .before .before .before .before .is-welcome .result) (a .before .before .before .before .before .before .is-welcome .ensures) (a .before .before .before .before .before .if6 .left) (d .before .before .join .ensures) (a .before .started .result) (a .before .started .ensures)
+    ∙ request-joins (before t) (numOf t) (freedNow t) (freed-is t) (g .0 .0) (g .0 .1 .0) (g .0 .1 .1 .0) (kind-is t _ (g .1)) (h .before .wide3 .result) (oldOf h) (d .before .before .join .result) (h .before .wide3 .ensures .0) (old-is h) (a .before .before .before .before .before .before .is-welcome .result) (a .before .before .before .before .before .before .is-welcome .ensures) (a .before .before .before .before .before .if5 .left) (d .before .before .join .ensures) (a .before .started .result) (a .before .started .ensures)
 
 pub kind-load-requires-3 : tie.Need-kind-load-requires-3 Inv-loop μ-loop
 kind-load-requires-3 c κs = search needs
 
 -- it has nobody to ask
-pub loop-less-7 : tie.Need-loop-less-7 Inv-loop μ-loop
-loop-less-7 c = less (c .before .before .before .before .before .before .before .before .before .before .before .before .before .before .before .before .before .before .before .before .before .before .before)
+pub loop-less-6 : tie.Need-loop-less-6 Inv-loop μ-loop
+loop-less-6 c = less (turnTook (c .before .before .before .before .before .before .before .before .before .before .before .before .before .before))
 
-pub loop-again-7 : tie.Need-loop-again-7 Inv-loop μ-loop
-loop-again-7 c =
+pub loop-again-6 : tie.Need-loop-again-6 Inv-loop μ-loop
+loop-again-6 c =
     let a = c .before .before in
     let d = c .before .before .before .before in
     let t = c .before .before .before .before .before .before .before .before .before .before .before .before .before .before in
-    again (turnTook t) 0 (delivered (before t) (numOf t)) (taking t) (wrote d) (weightWrote d)
-    (sent-none (wrote d) (weightWrote d) (weight-wrote d) (sent a) (c .before .kind-load3 .result) (c .before .kind-load3 .ensures .0) (delivered (before t) (numOf t)) (arrives a) (c .if7 .taken))
+    ends t (wrote d) (weightWrote d)
+    (sent-none (wrote d) (weightWrote d) (weight-wrote d) (sent a) (c .before .kind-load3 .result) (c .before .kind-load3 .ensures .0) (delivered (before t) (numOf t)) (arrives a) (c .if6 .taken))
 
 -- it is sent
 pub add-weight-4 : tie.Need-add-weight-4 Inv-loop μ-loop
@@ -227,14 +227,14 @@ cast-with-3 c = search needs
 pub with-requires-3 : tie.Need-with-requires-3 Inv-loop μ-loop
 with-requires-3 c κs = omega (arith, to-small (c .before .before .before .before .before .before .before .before .before .before .before .before .before .before))
 
-pub loop-less-8 : tie.Need-loop-less-8 Inv-loop μ-loop
-loop-less-8 c = less (c .before .before .before .before .before .before .before .before .before .before .before .before .before .before .before .before .before .before .before .before .before .before .before .before)
+pub loop-less-7 : tie.Need-loop-less-7 Inv-loop μ-loop
+loop-less-7 c = less (turnTook (c .before .before .before .before .before .before .before .before .before .before .before .before .before .before .before))
 
-pub loop-again-8 : tie.Need-loop-again-8 Inv-loop μ-loop
-loop-again-8 c =
+pub loop-again-7 : tie.Need-loop-again-7 Inv-loop μ-loop
+loop-again-7 c =
     let a = c .before .before .before in
     let d = c .before .before .before .before .before in
     let t = c .before .before .before .before .before .before .before .before .before .before .before .before .before .before .before in
-    again (turnTook t) 0 (delivered (before t) (numOf t)) (taking t) _ _
+    ends t _ _
     (sent-here (wrote d) (weightWrote d) (weight-wrote d) (sent a) (c .before .before .kind-load3 .result) (c .before .before .kind-load3 .ensures .0) (delivered (before t) (numOf t)) (arrives a)
-    (freed-flights t) (freed-matched t) (toOf t) (c .with3 .result) (t .lowest-free2 .ensures .0) (c .with3 .ensures) (to-small t) (c .before .if7 .left))
+    (freed-flights t) (freed-matched t) (toOf t) (c .with3 .result) (t .lowest-free2 .ensures .0) (c .with3 .ensures) (to-small t) (c .before .if6 .left))

@@ -4,7 +4,7 @@ use mathlib.Core.List.{[]}
 use Prim.Native.Nat.{ℕ, _+_, _-_, _*_, _/_, _%_, _≤_, _<_}
 use native.Mathlib.Omega.{arith}
 use borrow.Author.Needs.{needs}
-use borrow.Author.Tests.{not-true, not-false}
+use borrow.Author.Tests.{ltb-false}
 use lib.ListN.{length, set, getD, length-set}
 use Rattle.rules.specs.declared.Board.{Board}
 use Rattle.rules.specs.declared.Kind.{Kind}
@@ -15,40 +15,43 @@ use Rattle.rules.specs.Lists.{noEntries}
 use Rattle.rules.specs.Board.{with, noFlight, noProcess, kindAt, listAt, putProcess, freed, load}
 use Rattle.rules.specs.Commands.{delivered}
 use Rattle.rules.specs.Ranges.{KindRanged, ListRanged}
-use Rattle.rules.proofs.Sheet.{ofBytes}
 use Rattle.rules.proofs.Load.{Matched, matched-freed, load-process}
-use Rattle.engine.proofs.Sends.{read-at, one-free, freed-from, same-matched, freed-fits, freed-weight}
+use Rattle.engine.proofs.Sends.{Made, read-at, one-free, freed-from, same-matched, freed-fits, freed-weight}
 use Rattle.engine.proofs.Arrivals.{nothing-arrives, grant-arrives}
-use Rattle.engine.proofs.Turn.{Turns, absent, present}
+use Rattle.engine.proofs.Turn.{absent, present}
 use Rattle.engine.proofs.turns.Tie as tie
-use Rattle.engine.proofs.turns.Proof.Loop.{Inv-loop, μ-loop, Turn, boardNow, weightNow, hiOf, loOf, going, hi-small, ready, weight-most, less, again, place-small}
+use Rattle.engine.proofs.turns.Proof.Loop.{Inv-loop, μ-loop, Turn, boardNow, weightNow, hiOf, loOf, noneNow, none-now, going, hi-small, ready, weight-most, less, Again, again, place-small}
 
 -- ---- is it in flight?
-pub has-requires : tie.Need-has-requires Inv-loop μ-loop
-has-requires c κs = search needs
+pub delivery-answer-requires : tie.Need-delivery-answer-requires Inv-loop μ-loop
+delivery-answer-requires c κs = search needs
 
-pub slice-write-room-4 : tie.Need-slice-write-room-4 Inv-loop μ-loop
-slice-write-room-4 c = omega (arith, place-small (c .before .before .before))
+abbrev Asked : Type 0
+Asked = tie.After-delivery-answer Inv-loop μ-loop
 
-pub add-i-4 : tie.Need-add-i-4 Inv-loop μ-loop
-add-i-4 c = search needs
+abbrev turnAsked : Asked → Turn
+turnAsked a = a .before .before .before
 
-pub loop-less-4 : tie.Need-loop-less-4 Inv-loop μ-loop
-loop-less-4 c = less (c .before .before .before)
+delivers : (a : Asked) → 3 ≤ hiOf (turnAsked a) / 64
+delivers a = ltb-false (hiOf (turnAsked a) / 64) 3 (sym (a .before .before .is-at-home .ensures) ∙ a .before .if2 .left)
 
-pub loop-again-4 : tie.Need-loop-again-4 Inv-loop μ-loop
-loop-again-4 c =
-    let e = c .before .before .before in
+pub slice-write-room-2 : tie.Need-slice-write-room-2 Inv-loop μ-loop
+slice-write-room-2 c = omega (arith, place-small (turnAsked c))
+
+pub add-i-2 : tie.Need-add-i-2 Inv-loop μ-loop
+add-i-2 c = search needs
+
+pub loop-less-3 : tie.Need-loop-less-3 Inv-loop μ-loop
+loop-less-3 c = less (turnAsked (c .before))
+
+pub loop-again-3 : tie.Need-loop-again-3 Inv-loop μ-loop
+loop-again-3 c =
+    let a = c .before in
+    let e = turnAsked a in
     let b = boardNow e in
-    again e 11 b
-    (absent b (hiOf e / 4 % 16) (hiOf e % 4 * 4 + loOf e / 64) (hiOf e % 64) (hiOf e / 64) (omega (arith, hi-small e)) (c .before .before .if2 .left) (c .before .has .result) (omega arith) (c .before .has .ensures) (not-true _ (c .if5 .taken)))
+    again e (a .delivery-answer .result) b
+    (absent b (hiOf e / 4 % 16) (hiOf e % 4 * 4 + loOf e / 64) (hiOf e % 64) (hiOf e / 64) (omega (arith, hi-small e)) (delivers a) (omega arith) (a .delivery-answer .result) (a .delivery-answer .ensures) (c .if4 .taken))
     b (weightNow e) (record { board = refl; weight = going e .weight })
-
-pub slice-write-room-5 : tie.Need-slice-write-room-5 Inv-loop μ-loop
-slice-write-room-5 c = omega (arith, place-small (c .before .before .before))
-
-pub add-i-5 : tie.Need-add-i-5 Inv-loop μ-loop
-add-i-5 c = search needs
 
 pub wide-requires-2 : tie.Need-wide-requires-2 Inv-loop μ-loop
 wide-requires-2 c κs = search needs
@@ -73,7 +76,7 @@ abbrev Read : Type 0
 Read = tie.After-kind-load2 Inv-loop μ-loop
 
 abbrev turnRead : Read → Turn
-turnRead r = r .before .before .before .before .before .before .before
+turnRead r = turnAsked (r .before .before .before .before .before)
 
 abbrev sortRead : Read → Kind
 sortRead r = getD (boardNow (turnRead r) .flights) (r .before .before .before .wide2 .result) noFlight .kind
@@ -82,7 +85,7 @@ sort-read : (r : Read) → kindAt (boardNow (turnRead r)) (hiOf (turnRead r) % 6
 sort-read r = sym (ap (λ (i : ℕ). getD (boardNow (turnRead r) .flights) i noFlight .kind) (r .before .before .before .wide2 .ensures .0))
 
 pub sub-weight : tie.Need-sub-weight Inv-loop μ-loop
-sub-weight c = let r = c in let e = c .before .before .before .before .before .before .before in omega (arith, freed-fits (boardNow e) (hiOf e % 64) (omega arith) (weightNow e) (r .kind-load2 .result) (going e .weight) (sortRead r) (sort-read r) (r .kind-load2 .ensures .0))
+sub-weight c = let e = turnRead c in omega (arith, freed-fits (boardNow e) (hiOf e % 64) (omega arith) (weightNow e) (c .kind-load2 .result) (going e .weight) (sortRead c) (sort-read c) (c .kind-load2 .ensures .0))
 
 pub mul-free : tie.Need-mul-free Inv-loop μ-loop
 mul-free c = search needs
@@ -107,7 +110,7 @@ abbrev pub Took : Type 0
 Took = tie.After-lowest-free2 Inv-loop μ-loop
 
 abbrev pub turnTook : Took → Turn
-turnTook t = t .before .before .before .before .before .before .before .before .before
+turnTook t = turnRead (t .before .before)
 
 abbrev pub before : Took → Board
 before t = boardNow (turnTook t)
@@ -125,10 +128,10 @@ abbrev pub listOf : Took → Entries
 listOf t = getD (before t .lists) (t .before .before .before .before .before .wide2 .result) (record { who = []; leads = []; count = 0; next = 0 })
 
 abbrev pub noneOf : Took → Entries
-noneOf t = t .before .before .before .before .before .before .before .before .before .before .before .before .before .before .before .before .before .no-entries .result
+noneOf t = noneNow (turnTook t)
 
 pub none-is : (t : Took) → noneOf t ≡ noEntries
-none-is t = t .before .before .before .before .before .before .before .before .before .before .before .before .before .before .before .before .before .no-entries .ensures
+none-is t = none-now (turnTook t)
 
 -- the board and the load without the message
 abbrev pub freedNow : Took → Board
@@ -167,23 +170,28 @@ left-most t = omega (arith, weight-most (turnTook t))
 pub to-small : (t : Took) → toOf t < 64
 to-small t = omega (arith, t .lowest-free2 .ensures .0, ap lowestFree (t .before .without .ensures), one-free (before t .occupied) (numOf t) (omega arith))
 
--- what the turn is
-pub taking : (t : Took) → Turns (before t) (ofBytes (hiOf (turnTook t)) (loOf (turnTook t))) 0 (delivered (before t) (numOf t))
-taking t =
-    let e = t .before .before .before .before .before .before .before .before .before in
-    present (boardNow e) (hiOf e / 4 % 16) (hiOf e % 4 * 4 + loOf e / 64) (hiOf e % 64) (hiOf e / 64) (omega (arith, hi-small e)) (t .before .before .before .before .before .before .before .before .if2 .left) (t .before .before .before .before .before .before .before .has .result) (omega arith) (t .before .before .before .before .before .before .before .has .ensures) (not-false _ (t .before .before .before .before .before .before .if5 .left))
+-- ---- the turn's end: the board that the delivery makes, with its load
+abbrev askedTook : Took → Asked
+askedTook t = t .before .before .before .before .before .before .before
+
+pub ends : (t : Took) (x : Board) (w : ℕ) → Made x w (delivered (before t) (numOf t)) → Again (turnTook t) (askedTook t .delivery-answer .result) x w
+ends t =
+    let a = askedTook t in
+    let e = turnTook t in
+    again e (a .delivery-answer .result) (delivered (before t) (numOf t))
+    (present (boardNow e) (hiOf e / 4 % 16) (hiOf e % 4 * 4 + loOf e / 64) (hiOf e % 64) (hiOf e / 64) (omega (arith, hi-small e)) (delivers a) (omega arith) (a .delivery-answer .result) (a .delivery-answer .ensures) (t .before .before .before .before .before .before .if4 .left))
 
 -- ---- nothing under the number: it stays as it is
 pub enum-told : tie.Need-enum-told Inv-loop μ-loop
 enum-told c = search needs
 
-pub loop-less-5 : tie.Need-loop-less-5 Inv-loop μ-loop
-loop-less-5 c = less (c .before .before .before .before .before .before .before .before .before .before .before)
+pub loop-less-4 : tie.Need-loop-less-4 Inv-loop μ-loop
+loop-less-4 c = less (turnTook (c .before .before))
 
-pub loop-again-5 : tie.Need-loop-again-5 Inv-loop μ-loop
-loop-again-5 c =
+pub loop-again-4 : tie.Need-loop-again-4 Inv-loop μ-loop
+loop-again-4 c =
     let t = c .before .before in
-    again (turnTook t) 0 (delivered (before t) (numOf t)) (taking t) (freedNow t) (weightLeft t)
+    ends t (freedNow t) (weightLeft t)
     (record { board = nothing-arrives (before t) (numOf t) (freedNow t) (freed-is t) (kind-is t Free (c .enum-told .given .1)); weight = weight-left t })
 
 -- ---- a grant
@@ -214,13 +222,13 @@ mul-process-2 c = search needs
 pub element-set-from-process-2 : tie.Need-element-set-from-process-2 Inv-loop μ-loop
 element-set-from-process-2 c = omega (arith, grant-ranged (c .before .before .before) .0, c .before .before .wide6 .ensures .0)
 
-pub loop-less-9 : tie.Need-loop-less-9 Inv-loop μ-loop
-loop-less-9 c = less (c .before .before .before .before .before .before .before .before .before .before .before .before .before .before .before)
+pub loop-less-8 : tie.Need-loop-less-8 Inv-loop μ-loop
+loop-less-8 c = less (turnTook (c .before .before .before .before .before .before))
 
-pub loop-again-9 : tie.Need-loop-again-9 Inv-loop μ-loop
-loop-again-9 c =
+pub loop-again-8 : tie.Need-loop-again-8 Inv-loop μ-loop
+loop-again-8 c =
     let t = c .before .before .before .before .before .before in
-    again (turnTook t) 0 (delivered (before t) (numOf t)) (taking t) (putProcess (freedNow t) (c .before .before .wide6 .result) (c .granted .result)) (weightLeft t)
+    ends t (putProcess (freedNow t) (c .before .before .wide6 .result) (c .granted .result)) (weightLeft t)
     (record {
       board = grant-arrives (before t) (numOf t) (freedNow t) (freed-is t) (c .before .before .before .before .sort2 .given .0 .0) (c .before .before .before .before .sort2 .given .0 .1 .0) (c .before .before .before .before .sort2 .given .0 .1 .1 .0) (kind-is t _ (c .before .before .before .before .sort2 .given .1)) (c .before .before .wide6 .result) (getD (before t .processes) (c .before .before .wide6 .result) noProcess) (c .granted .result) (c .before .before .wide6 .ensures .0) (ap (λ (i : ℕ). getD (before t .processes) i noProcess) (c .before .before .wide6 .ensures .0)) (c .granted .ensures);
       weight = weight-left t ∙ sym (load-process (freedNow t) (c .before .before .wide6 .result) (c .granted .result));
