@@ -1,238 +1,218 @@
-// What a command does to the desk: the board is asked, and what came of it is said.
+// What a typed line does to the desk: the board is asked, and what came of it is said.
 use crate::desk::Desk;
-use crate::desk::Site;
-use crate::plan::Plan;
-use crate::plan::What;
+use crate::desk::sent;
+use crate::put::counted;
 use crate::put::text;
+use crate::put::text_if;
 use rules::Answer;
 use rules::Board;
 use rules::Command;
+use typed::Typed;
+use typed::Verb;
+use typed::homes::cut;
 
-// What is to be done with the boards kept for undo.
-pub enum Next {
-    Stay,
-    Keep,
-    Back,
-    Stop,
-}
-
+// The desk after a line, and what follows: the desk was changed, the last change is to be taken back, or the input is left.
 pub struct Acted {
     pub desk: Desk,
-    pub next: Next,
+    pub changed: bool,
+    pub undo: bool,
+    pub ended: bool,
 }
 
-fn followed_by(desk: Desk, next: Next) -> Acted {
-    Acted { desk, next }
+pub fn stay(desk: Desk) -> Acted {
+    Acted {
+        desk,
+        changed: false,
+        undo: false,
+        ended: false,
+    }
 }
 
-fn stay(desk: Desk) -> Acted {
-    followed_by(desk, Next::Stay)
+fn changed(desk: Desk) -> Acted {
+    let mut acted = stay(desk);
+    acted.changed = true;
+    acted
 }
 
-fn keep(desk: Desk) -> Acted {
-    followed_by(desk, Next::Keep)
+fn undo(desk: Desk) -> Acted {
+    let mut acted = stay(desk);
+    acted.undo = true;
+    acted
 }
 
-fn is_done(a: Answer) -> bool {
-    values::answer::number(a) == 0
+pub fn ended(desk: Desk) -> Acted {
+    let mut acted = stay(desk);
+    acted.ended = true;
+    acted
 }
 
 // Before the first opening the board is all zeros.
-fn closed(b: Board) -> bool {
-    if b.nodes == 0 {
-        text(b"  no board is open: try open 3 3 2\n");
+fn is_closed(b: Board) -> bool {
+    text_if(b.nodes == 0, b"  no board is open: try open 3 3 2\n");
+    b.nodes == 0
+}
+
+// The answer of a board is said; whether it is done.
+fn is_done(a: Answer, b: Board) -> bool {
+    crate::say::answer(a);
+    if values::answer::number(a) == 0 {
         return true;
     }
+    text(b"\n");
+    is_closed(b);
     false
 }
 
-fn open(desk: Desk, plan: Plan, nodes: u8, processes: u8, objects: u8) -> Acted {
-    let hp = plan.process_home;
-    let ho = plan.object_home;
-    let s = opening::open(nodes, processes, objects, hp, ho);
+fn open(desk: Desk, t: Typed) -> Acted {
+    let row = t.numbers;
+    let processes = cut(row[1]);
+    let hp = crate::plan::homes_behind(t, 0);
+    let ho = crate::plan::homes_behind(t, processes);
+    let s = opening::open(cut(row[0]), processes, cut(row[2]), hp, ho);
     let a = s.answer;
     crate::say::answer(a);
     text(b"\n");
-    if is_done(a) {
-        let command = desk.command;
-        return keep(crate::desk::cleared(s.board, command));
+    if values::answer::number(a) == 0 {
+        return changed(crate::desk::cleared(s.board, t));
     }
     stay(desk)
 }
 
-// What a delivery brought; it is free already on the board after it.
-fn tell_arrived(before: Desk, freed: usize) {
-    if freed < 64 {
-        text(b"  arrived message ");
-        crate::message::at(before, freed);
+// ---- what came of a command
+// The message that arrived, those that were sent, and the rings that were recorded, each on a line; and that a list ends, where it
+// neither went on nor recorded a ring. What arrived is free already on the board after it.
+fn tell(before: Desk, after: Desk, freed: usize) {
+    let old = before.board;
+    let new = after.board;
+    let set = sent(old.occupied, new.occupied, freed);
+    let arrived = crate::message::under(old, freed);
+    crate::message::tell(b"  arrived message ", before, freed);
+    crate::message::tell_each(b"  sent message ", after, set);
+    crate::show::new_rings(old, new);
+    text_if(
+        (3 < arrived.form) & (set == 0) & (counts::tally(new) == counts::tally(old)),
+        b"  the list ends without a new ring\n",
+    );
+}
+
+// What the line asks of a board.
+fn command(t: Typed) -> Command {
+    let verb = t.verb;
+    let row = t.numbers;
+    let first = cut(row[0]);
+    let second = cut(row[1]);
+    match verb {
+        Verb::Request => Command::Request(first, second, cut(row[2])),
+        Verb::Release => Command::Release(first, second),
+        _ => Command::Deliver(first),
     }
 }
 
-// Each message that was sent, one to a line.
-fn tell_sent(before: u64, desk: Desk, freed: usize) {
-    let b = desk.board;
-    let now = b.occupied;
-    let mut i: usize = 0;
-    while i < 64 {
-        if crate::desk::is_new(before, now, freed, i) {
-            text(b"  sent message ");
-            crate::message::at(desk, i);
-        }
-        i += 1;
-    }
-}
-
-// Each ring that was recorded, one to a line.
-fn tell_rings(before: Board, after: Board) {
-    let mut i: usize = 0;
-    while i < 16 {
-        let old = before.rings[i];
-        if old.count == 0 {
-            crate::show::ring(b"  ring recorded: ", after.rings[i]);
-        }
-        i += 1;
-    }
-}
-
-// A list that was delivered, and neither went on nor recorded a ring.
-fn tell_end(before: Board, after: Board, freed: usize) {
-    if 63 < freed {
-        return;
-    }
-    let l = before.lists[freed];
-    if l.count == 0 {
-        return;
-    }
-    if u64::count_ones(after.occupied) < u64::count_ones(before.occupied) {
-        if counts::tally(after) == counts::tally(before) {
-            text(b"  the list ends without a new ring\n");
-        }
-    }
-}
-
-fn step(desk: Desk, c: Command) -> Acted {
+fn step(desk: Desk, t: Typed) -> Acted {
     let old = desk.board;
+    let c = command(t);
     let s = bench::step(old, c);
     let a = s.answer;
-    crate::say::answer(a);
-    text(b"\n");
-    if !is_done(a) {
-        closed(old);
+    if !is_done(a, old) {
         return stay(desk);
     }
+    text(b"\n");
     let site = crate::desk::acts_at(old, c);
-    let next = crate::desk::after(desk, s.board, site);
-    tell_arrived(desk, site.freed);
-    tell_sent(old.occupied, next, site.freed);
-    tell_rings(old, s.board);
-    tell_end(old, s.board, site.freed);
-    keep(next)
+    let next = crate::desk::after(desk, s.board, site, t);
+    tell(desk, next, site.freed);
+    changed(next)
 }
 
 // ---- drain
-pub struct Draining {
-    pub desk: Desk,
-    pub made: usize,
-}
-
-// One delivery at most, of the lowest number in flight.
-fn drain_one(desk: Desk) -> Draining {
+// One delivery, of the lowest number in flight.
+fn drain_one(desk: Desk, command: Typed) -> Desk {
     let old = desk.board;
-    let site = crate::desk::delivery(old, crate::desk::lowest(old.occupied));
+    let site = crate::desk::delivery(old, values::bits::lowest(old.occupied));
     let d = bench::drain(old, 1);
-    Draining {
-        desk: crate::desk::after(desk, d.board, site),
-        made: d.made,
-    }
+    crate::desk::after(desk, d.board, site, command)
 }
 
 // One delivery after another, so that each message's sender is known.
-fn drained(start: Desk, budget: usize) -> Draining {
+fn drained(start: Desk, made: usize, command: Typed) -> Desk {
     let mut desk = start;
-    let mut made: usize = 0;
-    while made < budget {
-        let one = drain_one(desk);
-        if one.made == 0 {
-            return Draining { desk, made };
-        }
-        desk = one.desk;
-        made += 1;
+    let mut left = made;
+    while 0 < left {
+        desk = drain_one(desk, command);
+        left -= 1;
     }
-    Draining { desk, made }
+    desk
+}
+
+fn tell_left(left: usize) {
+    if left != 0 {
+        text(b"; ");
+        counted(left, b" message still in flight| messages still in flight|");
+    }
 }
 
 // How many deliveries a drain made, and how many messages its budget left.
 fn tell_drained(made: usize, left: usize) {
     text(b": ");
-    crate::put::counted(made, b" delivery", b" deliveries");
-    if left != 0 {
-        text(b"; ");
-        crate::put::counted(
-            left,
-            b" message still in flight",
-            b" messages still in flight",
-        );
-    }
+    counted(made, b" delivery| deliveries|");
+    tell_left(left);
     text(b"\n");
 }
 
-fn drain(desk: Desk, budget: usize) -> Acted {
+// Without a budget: no board needs as many deliveries.
+fn budget(t: Typed) -> usize {
+    let row = t.numbers;
+    if t.count == 0 {
+        return 65535;
+    }
+    row[0] as usize
+}
+
+fn drain(desk: Desk, t: Typed) -> Acted {
     let old = desk.board;
-    let d = bench::drain(old, budget);
+    let d = bench::drain(old, budget(t));
     let a = d.answer;
-    crate::say::answer(a);
-    if !is_done(a) {
-        text(b"\n");
-        closed(old);
+    if !is_done(a, old) {
         return stay(desk);
     }
-    let r = drained(desk, budget);
-    let next = r.desk;
-    let new = next.board;
+    let new = d.board;
     tell_drained(d.made, crate::desk::size(new.occupied));
-    tell_rings(old, new);
+    crate::show::new_rings(old, new);
     if d.made == 0 {
         return stay(desk);
     }
-    keep(next)
+    changed(drained(desk, d.made, t))
 }
 
-pub fn act(desk: Desk, plan: Plan) -> Acted {
+// ---- what changes nothing
+fn shown(desk: Desk, verb: Verb) {
     let b = desk.board;
-    let what = plan.what;
-    match what {
-        What::Nothing => {}
-        What::Open(n, p, o) => {
-            return open(desk, plan, n, p, o);
-        }
-        What::Step(c) => {
-            return step(desk, c);
-        }
-        What::Drain(n) => {
-            return drain(desk, n);
-        }
-        What::Show => {
-            if !closed(b) {
-                crate::show::board(desk);
-            }
-        }
-        What::Waits => {
-            if !closed(b) {
-                crate::waits::all(b);
-            }
-        }
-        What::Rings => {
-            if !closed(b) {
-                crate::show::rings(b);
-            }
-        }
-        What::Help => crate::say::help(),
-        What::Undo => {
-            return followed_by(desk, Next::Back);
-        }
-        What::Quit => {
-            return followed_by(desk, Next::Stop);
-        }
+    if is_closed(b) {
+        return;
+    }
+    match verb {
+        Verb::Show => crate::show::board(desk),
+        Verb::Waits => crate::waits::all(b),
+        _ => crate::show::rings(b),
+    }
+}
+
+fn told(desk: Desk, verb: Verb) -> Acted {
+    match verb {
+        Verb::Help => crate::say::help(),
+        _ => shown(desk, verb),
     }
     stay(desk)
+}
+
+// A whole command.
+pub fn act(desk: Desk, t: Typed) -> Acted {
+    let verb = t.verb;
+    match verb {
+        Verb::Open => open(desk, t),
+        Verb::Request | Verb::Release | Verb::Deliver => step(desk, t),
+        Verb::Drain => drain(desk, t),
+        Verb::Undo => undo(desk),
+        Verb::Quit => ended(desk),
+        _ => told(desk, verb),
+    }
 }

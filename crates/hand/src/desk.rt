@@ -1,13 +1,10 @@
 // The board on the desk, with the node that sent each message in flight: no message carries it, and only the whole board shows it.
 // With it the command that was the last to change it, which an undo takes back.
 ghost use Prim.Native.Nat.{_<_};
-use crate::put::wide;
 use rules::Board;
 use rules::Command;
-use rules::Entries;
-use rules::Flight;
-use rules::Kind;
 use typed::Typed;
+use values::bits::wide;
 
 pub struct Desk {
     pub board: Board,
@@ -21,23 +18,10 @@ pub struct Site {
     pub freed: usize,
 }
 
-// Number k is in the set.
-pub fn has(set: u64, k: usize) -> bool {
-    if k < 64 {
-        return (set >> k) % 2 == 1;
-    }
-    false
-}
-
 fn wide32(x: u32) -> usize
     ensures { λ r. ⌜ r < 4294967296 ⌝ }
 {
     x as usize
-}
-
-// The lowest number in the set; 64 where it has none.
-pub fn lowest(set: u64) -> usize {
-    wide32(u64::trailing_zeros(set))
 }
 
 // How many numbers the set has.
@@ -47,7 +31,7 @@ pub fn size(set: u64) -> usize
     wide32(u64::count_ones(set))
 }
 
-fn at(row: [u8; 16], k: u8) -> u8 {
+pub fn at(row: [u8; 16], k: u8) -> u8 {
     let i = wide(k);
     if i < 16 {
         return row[i];
@@ -55,38 +39,10 @@ fn at(row: [u8; 16], k: u8) -> u8 {
     0
 }
 
-// The process that a list asks next.
-pub fn asked(l: Entries) -> u8 {
-    let who = l.who;
-    at(who, l.next)
-}
-
-// The node at which a message arrives.
-pub fn goes_to(f: Flight, l: Entries, process_home: [u8; 16], object_home: [u8; 16]) -> u8 {
-    let k = f.kind;
-    match k {
-        Kind::Free => 0,
-        Kind::Request(_, o, _) => at(object_home, o),
-        Kind::Grant(p, _, _) => at(process_home, p),
-        Kind::Release(_, o) => at(object_home, o),
-        Kind::ListToHome => at(process_home, asked(l)),
-        Kind::ListToObject(o) => at(object_home, o),
-    }
-}
-
-// The node at which the message under a number arrives.
-fn arrives_at(b: Board, n: usize) -> u8 {
-    if n < 64 {
-        let hp = b.process_home;
-        let ho = b.object_home;
-        return goes_to(b.flights[n], b.lists[n], hp, ho);
-    }
-    0
-}
-
+// A delivery acts where the message arrives.
 pub fn delivery(b: Board, n: usize) -> Site {
     Site {
-        node: arrives_at(b, n),
+        node: crate::message::goes_to(b, crate::message::under(b, n)),
         freed: n,
     }
 }
@@ -107,24 +63,20 @@ pub fn acts_at(b: Board, c: Command) -> Site {
     }
 }
 
-// Message number n was sent: it is in flight now, and was not before, or was freed.
-pub fn is_new(before: u64, after: u64, freed: usize, n: usize) -> bool {
-    if !has(after, n) {
-        return false;
+// The messages that were sent: in flight now, and not before, or freed in between.
+pub fn sent(before: u64, after: u64, freed: usize) -> u64 {
+    if freed < 64 {
+        return after & (!before | (1 << freed));
     }
-    if n == freed {
-        return true;
-    }
-    !has(before, n)
+    after & !before
 }
 
-fn marked(senders: [u8; 64], before: u64, after: u64, s: Site) -> [u8; 64] {
-    let freed = s.freed;
+fn marked(senders: [u8; 64], set: u64, node: u8) -> [u8; 64] {
     let mut r = senders;
-    let mut i: usize = 0;
+    let mut i: u8 = 0;
     while i < 64 {
-        if is_new(before, after, freed, i) {
-            r[i] = s.node;
+        if values::bits::has(set, i) {
+            r[wide(i)] = node;
         }
         i += 1;
     }
@@ -132,24 +84,12 @@ fn marked(senders: [u8; 64], before: u64, after: u64, s: Site) -> [u8; 64] {
 }
 
 // The desk with another board, which an accepted command made of its own.
-pub fn after(desk: Desk, board: Board, s: Site) -> Desk {
+pub fn after(desk: Desk, board: Board, s: Site, command: Typed) -> Desk {
     let old = desk.board;
     let senders = desk.senders;
-    let command = desk.command;
     Desk {
         board,
-        senders: marked(senders, old.occupied, board.occupied, s),
-        command,
-    }
-}
-
-// The desk under another command.
-pub fn under(desk: Desk, command: Typed) -> Desk {
-    let board = desk.board;
-    let senders = desk.senders;
-    Desk {
-        board,
-        senders,
+        senders: marked(senders, sent(old.occupied, board.occupied, s.freed), s.node),
         command,
     }
 }

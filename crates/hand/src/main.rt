@@ -11,9 +11,10 @@ mod undo;
 mod waits;
 
 use act::Acted;
-use act::Next;
 use desk::Desk;
 use lines::Feed;
+use put::text_if;
+use typed::Typed;
 use undo::Kept;
 
 // No board is open yet: all zeros.
@@ -22,35 +23,51 @@ fn closed() -> Desk {
     desk::cleared(s.board, typed::read(b""))
 }
 
+fn understood(desk: Desk, t: Typed) -> Acted {
+    if plan::is_whole(t) {
+        return act::act(desk, t);
+    }
+    plan::refuse(t);
+    act::stay(desk)
+}
+
 // What a line does to the desk. A line longer than the room is not understood.
 fn answered(desk: Desk, room: &[u8], count: usize) -> Acted {
     if count <= room.len() {
-        let t = typed::read(&room[..count]);
-        return act::act(desk::under(desk, t), plan::of(t));
+        return understood(desk, typed::read(&room[..count]));
     }
     say::too_long();
-    Acted {
-        desk,
-        next: Next::Stay,
-    }
+    act::stay(desk)
 }
 
-// ---- what is said at a terminal alone
 fn greet(typing: bool) {
-    if typing {
-        put::text(b"A board to step by hand. help shows the commands; open 3 3 2 opens a board.\n");
-    }
+    text_if(
+        typing,
+        b"A board to step by hand. help shows the commands; open 3 3 2 opens a board.\n",
+    );
 }
 
-fn prompt(typing: bool) {
-    if typing {
-        put::text(b"> ");
-    }
+// What is left of a line: what it did, and where the input is read on.
+pub struct Turned {
+    pub acted: Acted,
+    pub feed: Feed,
 }
 
-fn end_line(typing: bool) {
-    if typing {
-        put::text(b"\n");
+// The next line is read and answered. At a terminal it is asked for, and the end of the input ends the line.
+fn turn(typing: bool, desk: Desk, piece: &mut [u8], room: &mut [u8], start: Feed) -> Turned {
+    text_if(typing, b"> ");
+    let line = lines::next_line(piece, room, start);
+    let feed = line.feed;
+    if lines::is_over(line) {
+        text_if(typing, b"\n");
+        return Turned {
+            acted: act::ended(desk),
+            feed,
+        };
+    }
+    Turned {
+        acted: answered(desk, room, line.count),
+        feed,
     }
 }
 
@@ -58,8 +75,7 @@ fn main() {
     let mut piece = io::buffer();
     let mut room = [0u8; 1000];
     let mut feed = Feed { at: 0, end: 0 };
-    let mut desk = closed();
-    let mut past = [desk; 64];
+    let mut past = [closed(); 65];
     let mut kept = Kept {
         top: 0,
         count: 0,
@@ -70,41 +86,18 @@ fn main() {
     greet(typing);
     while 0 < turns {
         turns -= 1;
-        prompt(typing);
-        let line = lines::next_line(&mut piece, &mut room, feed);
-        feed = line.feed;
-        if lines::is_over(line) {
-            break;
+        let top = undo::place(kept);
+        let turned = turn(typing, past[top], &mut piece, &mut room, feed);
+        feed = turned.feed;
+        let acted = turned.acted;
+        if acted.ended {
+            return;
         }
-        let acted = answered(desk, &room, line.count);
-        let next = acted.next;
-        match next {
-            Next::Stay => {
-                continue;
-            }
-            Next::Keep => {
-                let top = kept.top;
-                past[top] = desk;
-                desk = acted.desk;
-                kept = undo::one_more(kept);
-                continue;
-            }
-            Next::Back => {
-                if kept.count == 0 {
-                    undo::not_undone(kept.dropped);
-                    continue;
-                }
-                let command = desk.command;
-                undo::undone(command);
-                kept = undo::one_less(kept);
-                let top = kept.top;
-                desk = past[top];
-                continue;
-            }
-            Next::Stop => {
-                return;
-            }
-        }
+        kept = undo::one_more(kept, acted.changed);
+        let next = undo::place(kept);
+        let desk = acted.desk;
+        past[next] = desk;
+        let command = desk.command;
+        kept = undo::one_less(kept, acted.undo, command);
     }
-    end_line(typing);
 }

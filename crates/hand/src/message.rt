@@ -1,110 +1,161 @@
 // A message in words: its kind, what it carries, and its way.
 use crate::desk::Desk;
-use crate::desk::asked;
+use crate::desk::at;
 use crate::put::comma;
+use crate::put::digit;
+use crate::put::row;
+use crate::put::say;
 use crate::put::text;
-use crate::put::wide;
+use rules::Board;
 use rules::Entries;
-use rules::Flight;
 use rules::Kind;
+use values::bits::wide;
+use values::mode::is_exclusive;
 
-fn pair(before: &[u8], p: u8, between: &[u8], o: u8) {
-    text(before);
-    crate::put::process(p);
-    text(between);
-    crate::put::object(o);
+// What a message says: its form in the table of forms, and the numbers that are put in. It goes to the home of an object or of a process.
+pub struct Said {
+    pub form: u8,
+    pub first: u8,
+    pub second: u8,
+    pub mode: u8,
+    pub to_object: bool,
+    pub home_of: u8,
 }
 
-// What the message is, and for whom.
-fn kind(k: Kind, l: Entries) {
-    match k {
-        Kind::Free => {}
-        Kind::Request(p, o, m) => {
-            pair(b"request of ", p, b" for ", o);
-            crate::put::mode(m);
-        }
-        Kind::Grant(p, o, m) => {
-            pair(b"grant to ", p, b" of ", o);
-            crate::put::mode(m);
-        }
-        Kind::Release(p, o) => pair(b"release by ", p, b" of ", o),
-        Kind::ListToHome => {
-            text(b"list of ");
-            crate::put::process(l.who[0]);
-            text(b" to the home of ");
-            crate::put::process(asked(l));
-        }
-        Kind::ListToObject(o) => pair(b"list of ", l.who[0], b" to ", o),
+fn to_object(form: u8, p: u8, o: u8, mode: u8) -> Said {
+    Said {
+        form,
+        first: p,
+        second: o,
+        mode,
+        to_object: true,
+        home_of: o,
     }
+}
+
+fn to_process(form: u8, first: u8, second: u8, mode: u8, p: u8) -> Said {
+    Said {
+        form,
+        first,
+        second,
+        mode,
+        to_object: false,
+        home_of: p,
+    }
+}
+
+// What a message of a kind says, whose list has a starter and asks a process next.
+fn of(k: Kind, starter: u8, asked: u8) -> Said {
+    match k {
+        Kind::Free => to_object(0, 0, 0, 0),
+        Kind::Request(p, o, m) => to_object(1, p, o, digit(is_exclusive(m))),
+        Kind::Grant(p, o, m) => to_process(2, p, o, digit(is_exclusive(m)), p),
+        Kind::Release(p, o) => to_object(3, p, o, 0),
+        Kind::ListToHome => to_process(4, starter, asked, 0, asked),
+        Kind::ListToObject(o) => to_object(5, starter, o, 0),
+    }
+}
+
+// The message under a number; as a free one where the number is above 63.
+pub fn under(b: Board, n: usize) -> Said {
+    if n < 64 {
+        let f = b.flights[n];
+        let k = f.kind;
+        let l = b.lists[n];
+        let who = l.who;
+        return of(k, who[0], at(who, l.next));
+    }
+    to_object(0, 0, 0, 0)
+}
+
+// The node at which a message arrives.
+pub fn goes_to(b: Board, s: Said) -> u8 {
+    let process_home = b.process_home;
+    let object_home = b.object_home;
+    if s.to_object {
+        return at(object_home, s.home_of);
+    }
+    at(process_home, s.home_of)
 }
 
 // One entry; each but the first names the earlier one that led to it.
-fn entry(l: Entries, i: usize) {
-    if i < 16 {
-        comma(i, 3);
-        crate::put::process(l.who[i]);
-        let lead = wide(l.leads[i]);
-        if lead < i {
-            text(b" (led by ");
-            crate::put::process(l.who[lead]);
-            text(b")");
-        }
-    }
+fn entry(l: Entries, i: u8) {
+    let who = l.who;
+    let leads = l.leads;
+    let lead = at(leads, i);
+    comma(wide(i), 3);
+    say(
+        row(b"p#|p# (led by p#)|", b'|', digit(lead < i)),
+        [at(who, i), at(who, lead), 0, 0],
+    );
 }
 
-// What the list is to do where it arrives: ask a process at its home, or look for it in an object's line.
-fn errand(k: Kind, l: Entries) {
-    match k {
-        Kind::ListToObject(o) => pair(b"looks for ", asked(l), b" in the line of ", o),
-        _ => {
-            text(b"asks ");
-            crate::put::process(asked(l));
-            text(b" next");
-        }
-    }
-}
-
-// The entries of a list with their leads, and its errand, on lines of their own. A message that is no list has none.
-fn entries(k: Kind, l: Entries) {
+// The entries of a list with their leads, and what it is to do where it arrives: ask a process at its home, or look for it in an
+// object's line. They stand on lines of their own. A message that is no list has none.
+fn entries(s: Said, l: Entries) {
+    let who = l.who;
     let n = wide(l.count);
     if n == 0 {
         return;
     }
-    crate::put::next_line();
-    text(b"entries ");
-    let mut i: usize = 0;
+    text(b"\n      entries ");
+    let mut i: u8 = 0;
     while i < 16 {
-        if i < n {
+        if i < l.count {
             entry(l, i);
         }
         i += 1;
     }
     text(b";");
     crate::put::gap(n, 3);
-    errand(k, l);
+    say(
+        row(
+            b"asks p# next|looks for p# in the line of o#|",
+            b'|',
+            digit(s.to_object),
+        ),
+        [at(who, l.next), s.home_of, 0, 0],
+    );
 }
 
-fn message(f: Flight, l: Entries, from: u8, to: u8) {
-    let k = f.kind;
-    kind(k, l);
-    text(b", from ");
-    crate::put::node(from);
-    text(b" to ");
-    crate::put::node(to);
-    entries(k, l);
-    text(b"\n");
+fn line(before: &[u8], n: usize, s: Said, from: u8, to: u8) {
+    text(before);
+    crate::put::number(n);
+    say(
+        row(
+            b":
+: request of p# for o# ?
+: grant to p# of o# ?
+: release by p# of o#
+: list of p# to the home of p#
+: list of p# to o#
+",
+            b'\n',
+            s.form,
+        ),
+        [s.first, s.second, s.mode, 0],
+    );
+    say(b", from node # to node #", [from, to, 0, 0]);
 }
 
-// The message under a number.
-pub fn at(desk: Desk, n: usize) {
+// The message under a number, behind a word or two.
+pub fn tell(before: &[u8], desk: Desk, n: usize) {
     if n < 64 {
         let b = desk.board;
-        let f = b.flights[n];
-        let l = b.lists[n];
-        let hp = b.process_home;
-        let ho = b.object_home;
-        crate::put::number(n);
-        text(b": ");
-        message(f, l, desk.senders[n], crate::desk::goes_to(f, l, hp, ho));
+        let s = under(b, n);
+        line(before, n, s, desk.senders[n], goes_to(b, s));
+        entries(s, b.lists[n]);
+        text(b"\n");
+    }
+}
+
+// Each message of a set, one to a line.
+pub fn tell_each(before: &[u8], desk: Desk, set: u64) {
+    let mut i: u8 = 0;
+    while i < 64 {
+        if values::bits::has(set, i) {
+            tell(before, desk, wide(i));
+        }
+        i += 1;
     }
 }

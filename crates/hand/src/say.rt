@@ -1,45 +1,18 @@
-// Answers and commands in words, what was expected where a line is not understood, and the help.
+// Answers and commands in words, what is wrong with a line that is not understood, and the help.
+use crate::put::number;
+use crate::put::row;
 use crate::put::text;
+use crate::put::word;
 use rules::Answer;
 use typed::Typed;
 use typed::Verb;
-
-// The end of the row that starts at a place.
-fn row_end(table: &[u8], from: usize) -> usize {
-    let mut i = from;
-    while i < table.len() {
-        if table[i] == b'\n' {
-            return i;
-        }
-        i += 1;
-    }
-    i
-}
-
-// Row n of a table whose rows end in line feeds.
-fn row(table: &[u8], n: u8) {
-    let mut from: usize = 0;
-    let mut left = n;
-    while 0 < left {
-        from = row_end(table, from);
-        if from < table.len() {
-            from += 1;
-        }
-        left -= 1;
-    }
-    let end = row_end(table, from);
-    if from <= end {
-        if end <= table.len() {
-            text(&table[from..end]);
-        }
-    }
-}
+use values::bits::wide;
 
 // The number of an answer and the words that the paper's table has for it, in the table's order; the line goes on.
 pub fn answer(a: Answer) {
     let n = values::answer::number(a);
-    crate::put::small(n);
-    row(
+    number(wide(n));
+    text(row(
         b" done
  refused: a count outside its limit
  refused: a home node not below the node count
@@ -60,112 +33,132 @@ pub fn answer(a: Answer) {
  refused: board out of shape
  refused: answer room shorter than the number of commands
 ",
+        b'\n',
         n,
-    );
+    ));
 }
 
 // ---- a command in words
-fn name(verb: Verb) {
+// The place of a verb in the tables of names and of forms.
+fn place(verb: Verb) -> u8 {
     match verb {
-        Verb::Blank => text(b"nothing"),
-        Verb::Open => text(b"open"),
-        Verb::Request => text(b"request"),
-        Verb::Release => text(b"release"),
-        Verb::Deliver => text(b"deliver"),
-        Verb::Drain => text(b"drain"),
-        Verb::Show => text(b"show"),
-        Verb::Waits => text(b"waits"),
-        Verb::Rings => text(b"rings"),
-        Verb::Undo => text(b"undo"),
-        Verb::Help => text(b"help"),
-        Verb::Quit => text(b"quit"),
-        Verb::Unknown => text(b"the command"),
+        Verb::Blank => 0,
+        Verb::Open => 1,
+        Verb::Request => 2,
+        Verb::Release => 3,
+        Verb::Deliver => 4,
+        Verb::Drain => 5,
+        Verb::Show => 6,
+        Verb::Waits => 7,
+        Verb::Rings => 8,
+        Verb::Undo => 9,
+        Verb::Help => 10,
+        Verb::Quit => 11,
+        Verb::Unknown => 12,
     }
 }
 
-// The words of a command behind its name.
-fn arguments(t: Typed) {
-    let verb = t.verb;
-    let row = t.numbers;
-    let mut i: usize = 0;
-    while i < 35 {
-        if i < t.count {
-            if typed::asks_mode(verb, i) {
-                crate::put::mode_if(row[i] == 1);
-            } else {
-                crate::put::gap(i, 20);
-                crate::put::number(crate::put::wide16(row[i]));
-            }
-        }
-        i += 1;
+fn name(verb: Verb) {
+    word(
+        b"nothing|open|request|release|deliver|drain|show|waits|rings|undo|help|quit|the command|",
+        place(verb),
+    );
+}
+
+// The word of a command behind so many others.
+fn argument(verb: Verb, before: usize, n: u16) {
+    if typed::asks_mode(verb, before) {
+        word(b" shared| exclusive|", crate::put::digit(n == 1));
+        return;
     }
+    crate::put::gap(before, 20);
+    number(n as usize);
 }
 
 // A command that was done, in its long form.
 pub fn command(t: Typed) {
     let verb = t.verb;
+    let words = t.numbers;
     name(verb);
-    arguments(t);
+    let mut i: usize = 0;
+    while i < 35 {
+        if i < t.count {
+            argument(verb, i, words[i]);
+        }
+        i += 1;
+    }
 }
 
 // ---- a line that is not understood changes nothing
-fn after(verb: Verb) {
-    text(b" after ");
-    name(verb);
-}
-
-// The word at a place, from 1, does not stand for what it should.
-fn misread(verb: Verb, place: usize) {
-    text(b"word ");
-    crate::put::number(place);
-    after(verb);
-    if 0 < place {
-        if typed::asks_mode(verb, place - 1) {
-            text(b" is no mode\n");
-            return;
-        }
+// What is wrong with the words of a command that takes so many at most: 0 how many they are, else the first odd one, which is
+// 1 no number or 2 no mode.
+fn fault_of(t: Typed, most: usize) -> u8 {
+    let verb = t.verb;
+    let odd = t.odd;
+    if odd == 0 {
+        return 0;
     }
-    text(b" is no number\n");
+    if most < odd {
+        return 0;
+    }
+    if typed::asks_mode(verb, odd - 1) {
+        return 2;
+    }
+    1
 }
 
-fn miscounted(verb: Verb, count: usize) {
-    if count == 0 {
+fn faulty_words(fault: u8, t: Typed) {
+    if fault != 0 {
+        text(b"word ");
+        number(t.odd);
+        return;
+    }
+    if t.count == 0 {
         text(b"nothing");
-    } else {
-        crate::put::counted(count, b" word", b" words");
+        return;
     }
-    after(verb);
-    text(b"\n");
+    crate::put::counted(t.count, b" word| words|");
 }
 
-// What is wrong with the words of a command that takes so many at most.
 pub fn fault(t: Typed, most: usize) {
     let verb = t.verb;
+    let which = fault_of(t, most);
     text(b"not understood: ");
-    if t.odd == 0 {
-        miscounted(verb, t.count);
-        return;
-    }
-    if most < t.odd {
-        miscounted(verb, t.count);
-        return;
-    }
-    misread(verb, t.odd);
+    faulty_words(which, t);
+    text(b" after ");
+    name(verb);
+    word(b"\n| is no number\n| is no mode\n|", which);
 }
 
 // An opening whose homes are too few or too many for its counts.
 pub fn miscounted_homes(count: usize, wanted: usize) {
     text(b"not understood: ");
-    crate::put::number(count);
+    number(count);
     text(b" numbers after open; for these counts 3, or ");
-    crate::put::number(wanted);
+    number(wanted);
     text(b" with homes\n");
 }
 
-pub fn expected(form: &[u8]) {
+// The form of a command. The last row is for each that takes no word.
+pub fn expected(verb: Verb) {
+    let mut at = place(verb);
+    if 6 < at {
+        at = 6;
+    }
     text(b"  expected ");
-    text(form);
-    text(b"\n");
+    word(
+        b"|open NODES PROCESSES OBJECTS, as in open 3 3 2, and after them
+  no home, or the home node of each process and then of each object
+|request PROCESS OBJECT MODE, as in request 0 1 exclusive
+  (type 0 for p0 and 1 for o1; a mode is shared or s or 0, exclusive or x or 1)
+|release PROCESS OBJECT, as in release 0 1
+  (type 0 for p0 and 1 for o1)
+|deliver MESSAGE, as in deliver 0
+|drain, or drain BUDGET, as in drain 5 (at most 5 deliveries)
+|the command alone
+|",
+        at,
+    );
 }
 
 pub fn unknown() {

@@ -1,117 +1,83 @@
 // The board as a class should see it: what each node can know, and what only the whole board shows.
 use crate::desk::Desk;
-use crate::desk::has;
 use crate::desk::size;
 use crate::put::comma;
+use crate::put::digit;
+use crate::put::items;
+use crate::put::row;
+use crate::put::say;
 use crate::put::text;
-use crate::put::wide;
+use crate::put::text_if;
+use crate::put::word;
 use rules::Board;
 use rules::Object;
 use rules::Process;
 use rules::Ring;
 use rules::Wait;
+use values::bits::has;
+use values::bits::wide;
 
 // ---- one node
-// Number k, which is hold i of a row.
-fn hold(letter: &[u8], k: usize, exclusive: bool, i: usize) {
-    comma(i, 4);
-    text(letter);
-    crate::put::number(k);
-    crate::put::mode_if(exclusive);
-}
-
-// The numbers of two sets, one for each mode; a word where there are none.
-fn holds(letter: &[u8], shared: u64, exclusive: u64, none: &[u8]) {
+// The numbers of two sets, one for each mode. The table has their form, and the word where there are none.
+fn holds(table: &[u8], shared: u64, exclusive: u64) {
     let mut told: usize = 0;
-    let mut i: usize = 0;
+    let mut i: u8 = 0;
     while i < 16 {
         if !has(shared | exclusive, i) {
             i += 1;
             continue;
         }
-        hold(letter, i, has(exclusive, i), told);
+        comma(told, 4);
+        say(row(table, b'|', 0), [i, digit(has(exclusive, i)), 0, 0]);
         told += 1;
         i += 1;
     }
-    if told == 0 {
-        text(none);
-    }
-}
-
-// What comes after a row: on its line where the row has at most so many items, else on the next.
-fn clause(items: usize, most: usize) {
-    text(b";");
-    if items <= most {
-        text(b" ");
-    } else {
-        crate::put::next_line();
-    }
+    text_if(told == 0, row(table, b'|', 1));
 }
 
 fn noted(w: Wait) {
     match w {
         Wait::NotWaiting => text(b"notes no wait"),
-        Wait::Waiting(o, m) => {
-            text(b"notes a wait for ");
-            crate::put::object(o);
-            crate::put::mode(m);
-        }
+        Wait::Waiting(o, m) => say(
+            b"notes a wait for o# ?",
+            [o, digit(values::mode::is_exclusive(m)), 0, 0],
+        ),
     }
 }
 
-fn process_line(k: usize, p: Process) {
-    text(b"  p");
-    crate::put::number(k);
-    text(b" holds ");
-    holds(b"o", p.shared, p.exclusive, b"nothing");
-    clause(size(p.shared | p.exclusive), 1);
+// What comes after a row stands on its line where the row is short, else on the next.
+fn clause(long: bool) {
+    crate::put::either(long, b";\n      ", b"; ");
+}
+
+fn process_line(k: u8, p: Process) {
     let w = p.wait;
+    say(b"  p# holds ", [k, 0, 0, 0]);
+    holds(b"o# ?|nothing|", p.shared, p.exclusive);
+    clause(1 < size(p.shared | p.exclusive));
     noted(w);
-    if p.released {
-        text(b"; has released");
-    }
-    text(b"\n");
+    word(b"\n|; has released\n|", digit(p.released));
 }
 
-// The line of an object, from the front.
-fn line_of(o: Object) {
-    let n = wide(o.line_count);
-    if n == 0 {
-        text(b"empty");
-    }
-    let mut i: usize = 0;
-    while i < 16 {
-        if i < n {
-            comma(i, 4);
-            crate::put::process(o.line[i]);
-            crate::put::mode_if(has(o.line_exclusive, i));
-        }
-        i += 1;
-    }
-}
-
-fn object_line(k: usize, o: Object) {
-    text(b"  o");
-    crate::put::number(k);
-    text(b" held by ");
-    holds(b"p", o.shared, o.exclusive, b"nobody");
-    clause(size(o.shared | o.exclusive) + wide(o.line_count), 3);
-    text(b"line: ");
-    line_of(o);
+fn object_line(k: u8, o: Object) {
+    let line = o.line;
+    say(b"  o# held by ", [k, 0, 0, 0]);
+    holds(b"p# ?|nobody|", o.shared, o.exclusive);
+    clause(3 < size(o.shared | o.exclusive) + wide(o.line_count));
+    word(b"line: |line: empty|", digit(o.line_count == 0));
+    items(b"p# ?", line, o.line_exclusive, o.line_count, 4);
     text(b"\n");
 }
 
 // The processes that live on a node; whether there are any.
-fn processes_of(b: Board, node: usize) -> bool {
-    let n = wide(b.process_count);
+fn processes_of(b: Board, node: u8) -> bool {
     let mut some = false;
-    let mut i: usize = 0;
+    let mut i: u8 = 0;
     while i < 16 {
-        if i < n {
-            if wide(b.process_home[i]) == node {
-                process_line(i, b.processes[i]);
-                some = true;
-            }
+        let at = wide(i);
+        if (i < b.process_count) & (b.process_home[at] == node) {
+            process_line(i, b.processes[at]);
+            some = true;
         }
         i += 1;
     }
@@ -119,97 +85,82 @@ fn processes_of(b: Board, node: usize) -> bool {
 }
 
 // The objects that live on a node; whether there are any.
-fn objects_of(b: Board, node: usize) -> bool {
-    let n = wide(b.object_count);
+fn objects_of(b: Board, node: u8) -> bool {
     let mut some = false;
-    let mut i: usize = 0;
+    let mut i: u8 = 0;
     while i < 16 {
-        if i < n {
-            if wide(b.object_home[i]) == node {
-                object_line(i, b.objects[i]);
-                some = true;
-            }
+        let at = wide(i);
+        if (i < b.object_count) & (b.object_home[at] == node) {
+            object_line(i, b.objects[at]);
+            some = true;
         }
         i += 1;
     }
     some
 }
 
-fn node(b: Board, number: usize) {
-    text(b"node ");
-    crate::put::number(number);
-    text(b" can know\n");
-    let processes = processes_of(b, number);
-    let objects = objects_of(b, number);
-    if processes | objects {
-        return;
-    }
-    text(b"  nothing lives here\n");
-}
-
 fn nodes(b: Board) {
-    let n = wide(b.nodes);
-    let mut i: usize = 0;
+    let mut i: u8 = 0;
     while i < 8 {
-        if i < n {
-            node(b, i);
+        if i < b.nodes {
+            say(b"node # can know\n", [i, 0, 0, 0]);
+            let processes = processes_of(b, i);
+            let objects = objects_of(b, i);
+            text_if(!(processes | objects), b"  nothing lives here\n");
         }
         i += 1;
     }
 }
 
 // ---- the whole board
-fn messages(desk: Desk) {
-    let b = desk.board;
-    let flying = b.occupied;
-    if flying == 0 {
-        text(b"  no message in flight\n");
+// A ring, starter first; nothing where the place is empty.
+fn ring(before: &[u8], r: Ring) {
+    let processes = r.processes;
+    if r.count == 0 {
+        return;
     }
+    text(before);
+    items(b"p#", processes, 0, r.count, 10);
+    text(b"\n");
+}
+
+// The ring in each place that was empty before.
+fn rings_since(old: [Ring; 16], before: &[u8], now: [Ring; 16]) {
     let mut i: usize = 0;
-    while i < 64 {
-        if has(flying, i) {
-            text(b"  message ");
-            crate::message::at(desk, i);
+    while i < 16 {
+        let r = old[i];
+        if r.count == 0 {
+            ring(before, now[i]);
         }
         i += 1;
     }
 }
 
-// A ring, starter first; nothing where the place is empty.
-pub fn ring(before: &[u8], r: Ring) {
-    let n = wide(r.count);
-    if n == 0 {
-        return;
-    }
-    text(before);
-    let mut i: usize = 0;
-    while i < 16 {
-        if i < n {
-            comma(i, 10);
-            crate::put::process(r.processes[i]);
-        }
-        i += 1;
-    }
-    text(b"\n");
+pub fn new_rings(old: Board, new: Board) {
+    let past = old.rings;
+    let now = new.rings;
+    rings_since(past, b"  ring recorded: ", now);
 }
 
 // How many places for a ring are filled, and the ring in each.
 pub fn rings(b: Board) {
+    let now = b.rings;
+    let none = Ring {
+        processes: [0; 16],
+        count: 0,
+    };
     text(b"  rings recorded: ");
     crate::put::number(counts::tally(b));
     text(b"\n");
-    let mut i: usize = 0;
-    while i < 16 {
-        ring(b"    ring ", b.rings[i]);
-        i += 1;
-    }
+    rings_since([none; 16], b"    ring ", now);
 }
 
 pub fn board(desk: Desk) {
     let b = desk.board;
     nodes(b);
     text(b"only the whole board shows\n");
-    messages(desk);
+    text_if(b.occupied == 0, b"  no message in flight\n");
+    crate::message::tell_each(b"  message ", desk, b.occupied);
     rings(b);
     text(b"  load ");
     crate::put::number(counts::load(b));

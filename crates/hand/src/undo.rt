@@ -1,84 +1,64 @@
-// The changes that undo can take back. The board before each stands in a ring of 64 places, where a new one takes the place of the oldest.
+// The changes that undo can take back. The desk and the 64 before it stand in a ring of 65 places, where a new one takes the place of the
+// oldest.
 ghost use Prim.Native.Nat.{_<_};
 use crate::put::text;
 use typed::Typed;
 
-// The place where the next board is kept, how many are kept, and whether an older one was dropped.
+// The place of the desk, how many changes are kept, and whether an older one was dropped.
 pub struct Kept {
     pub top: usize,
     pub count: usize,
     pub dropped: bool,
 }
 
-fn place_after(top: usize) -> usize
-    ensures { λ r. ⌜ r < 64 ⌝ }
+pub fn place(k: Kept) -> usize
+    ensures { λ r. ⌜ r < 65 ⌝ }
 {
-    if top < 63 {
-        return top + 1;
-    }
-    0
+    k.top % 65
 }
 
-fn place_before(top: usize) -> usize
-    ensures { λ r. ⌜ r < 64 ⌝ }
-{
-    if top == 0 {
-        return 63;
+// One change more, where there was one.
+pub fn one_more(k: Kept, changed: bool) -> Kept {
+    if !changed {
+        return k;
     }
-    if top < 64 {
-        return top - 1;
-    }
-    0
-}
-
-// A board was put at the top.
-pub fn one_more(k: Kept) -> Kept
-    ensures { λ r. ⌜ r .top < 64 ⌝ }
-{
-    let top = place_after(k.top);
     if k.count < 64 {
         return Kept {
-            top,
+            top: k.top % 65 + 1,
             count: k.count + 1,
             dropped: k.dropped,
         };
     }
     Kept {
-        top,
+        top: k.top % 65 + 1,
         count: 64,
         dropped: true,
     }
 }
 
-// The board below the top is taken back.
-pub fn one_less(k: Kept) -> Kept
-    ensures { λ r. ⌜ r .top < 64 ⌝ }
-{
-    let top = place_before(k.top);
-    if k.count == 0 {
-        return Kept {
-            top,
-            count: 0,
-            dropped: k.dropped,
-        };
-    }
-    Kept {
-        top,
-        count: k.count - 1,
-        dropped: k.dropped,
-    }
+fn not_undone(dropped: bool) {
+    crate::put::either(
+        dropped,
+        b"nothing is left to undo: the last 64 changes are kept\n",
+        b"nothing to undo\n",
+    );
 }
 
-pub fn undone(command: Typed) {
+// The last change, which the command made, is taken back, where that is asked for and one is kept.
+pub fn one_less(k: Kept, asked: bool, command: Typed) -> Kept {
+    if !asked {
+        return k;
+    }
+    if k.count == 0 {
+        not_undone(k.dropped);
+        return k;
+    }
     text(b"undone: ");
     crate::say::command(command);
     text(b"\n");
-}
-
-pub fn not_undone(dropped: bool) {
-    if dropped {
-        text(b"nothing is left to undo: the last 64 changes are kept\n");
-        return;
+    Kept {
+        top: k.top % 65 + 64,
+        count: k.count - 1,
+        dropped: k.dropped,
     }
-    text(b"nothing to undo\n");
 }

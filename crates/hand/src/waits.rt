@@ -1,10 +1,12 @@
 // Who waits for whom, why, and at which node: each wait stands in a line, and the home of the object has the line. Only lines count, not
 // requests still travelling.
-use crate::desk::has;
-use crate::put::text;
-use crate::put::wide;
+use crate::put::digit;
+use crate::put::say;
+use crate::put::text_if;
 use rules::Board;
 use rules::Object;
+use values::bits::has;
+use values::bits::wide;
 
 // One process of a line, and its mode.
 pub struct Waiter {
@@ -12,57 +14,36 @@ pub struct Waiter {
     pub exclusive: bool,
 }
 
-fn in_brackets(exclusive: bool) {
-    text(b" (");
-    crate::put::mode_word(exclusive);
-    text(b")");
-}
-
-// The waiter, another and the reason, with the modes of both.
-fn tell(w: Waiter, q: u8, reason: &[u8], exclusive: bool) {
-    text(b"  ");
-    crate::put::process(w.process);
-    in_brackets(w.exclusive);
-    text(b" waits for ");
-    crate::put::process(q);
-    text(reason);
-    text(b" in conflict");
-    in_brackets(exclusive);
-    text(b"\n");
-}
-
-// Another process, in a mode: two holds conflict unless both are shared.
+// Another process, in a mode, with the reason: two holds conflict unless both are shared.
 fn tell_if(w: Waiter, q: u8, reason: &[u8], exclusive: bool) {
-    if q == w.process {
-        return;
-    }
-    if exclusive {
-        tell(w, q, reason, exclusive);
-        return;
-    }
-    if w.exclusive {
-        tell(w, q, reason, exclusive);
+    if (q != w.process) & (exclusive | w.exclusive) {
+        say(reason, [w.process, digit(w.exclusive), q, digit(exclusive)]);
     }
 }
 
-fn holders(w: Waiter, shared: u64, exclusive: u64) {
+fn holders(w: Waiter, o: Object) {
     let mut q: u8 = 0;
     while q < 16 {
-        if has(shared | exclusive, wide(q)) {
-            tell_if(w, q, b", which holds it", has(exclusive, wide(q)));
+        if has(o.shared | o.exclusive, q) {
+            tell_if(
+                w,
+                q,
+                b"  p# (?) waits for p#, which holds it in conflict (?)\n",
+                has(o.exclusive, q),
+            );
         }
         q += 1;
     }
 }
 
-fn ahead(w: Waiter, o: Object, k: usize) {
-    let mut j: usize = 0;
+fn ahead(w: Waiter, o: Object, k: u8) {
+    let mut j: u8 = 0;
     while j < 16 {
         if j < k {
             tell_if(
                 w,
-                o.line[j],
-                b", which stands ahead",
+                o.line[wide(j)],
+                b"  p# (?) waits for p#, which stands ahead in conflict (?)\n",
                 has(o.line_exclusive, j),
             );
         }
@@ -70,65 +51,47 @@ fn ahead(w: Waiter, o: Object, k: usize) {
     }
 }
 
-fn heading(number: usize, home: u8) {
-    text(b"at ");
-    crate::put::node(home);
-    text(b", in the line of o");
-    crate::put::number(number);
-    text(b"\n");
-}
-
-fn in_line(number: usize, home: u8, o: Object) {
-    let n = wide(o.line_count);
-    if n == 0 {
-        return;
+// Whether anybody stands in the line.
+fn in_line(number: u8, home: u8, o: Object) -> bool {
+    if o.line_count == 0 {
+        return false;
     }
-    heading(number, home);
-    let mut k: usize = 0;
+    say(b"at node #, in the line of o#\n", [home, number, 0, 0]);
+    let mut k: u8 = 0;
     while k < 16 {
-        if k < n {
+        if k < o.line_count {
             let w = Waiter {
-                process: o.line[k],
+                process: o.line[wide(k)],
                 exclusive: has(o.line_exclusive, k),
             };
-            holders(w, o.shared, o.exclusive);
+            holders(w, o);
             ahead(w, o, k);
         }
         k += 1;
     }
+    true
 }
 
-// Somebody stands in a line.
-fn standing(b: Board) -> bool {
-    let mut i: usize = 0;
+// The lines of the objects that live on a node; whether anybody stands in one.
+fn at_node(b: Board, node: u8) -> bool {
+    let mut some = false;
+    let mut i: u8 = 0;
     while i < 16 {
-        let o = b.objects[i];
-        if o.line_count != 0 {
-            return true;
+        let at = wide(i);
+        if b.object_home[at] == node {
+            some = in_line(i, node, b.objects[at]) | some;
         }
         i += 1;
     }
-    false
-}
-
-// The lines of the objects that live on a node.
-fn at_node(b: Board, node: u8) {
-    let mut i: usize = 0;
-    while i < 16 {
-        if b.object_home[i] == node {
-            in_line(i, node, b.objects[i]);
-        }
-        i += 1;
-    }
+    some
 }
 
 pub fn all(b: Board) {
-    if !standing(b) {
-        text(b"  nobody waits: nobody stands in a line\n");
-    }
+    let mut some = false;
     let mut node: u8 = 0;
     while node < 8 {
-        at_node(b, node);
+        some = at_node(b, node) | some;
         node += 1;
     }
+    text_if(!some, b"  nobody waits: nobody stands in a line\n");
 }

@@ -11,20 +11,17 @@ slice-aggregate-read c = sym (length-take-le _ _ (c .before .if1 .taken))
 read-requires : tie.Need-read-requires
 read-requires c κs = search needs
 
-under-requires : tie.Need-under-requires
-under-requires c κs = search needs
-
-of-requires : tie.Need-of-requires
-of-requires c κs = search needs
-
-act-requires : tie.Need-act-requires
-act-requires c κs = search needs
+understood-requires : tie.Need-understood-requires
+understood-requires c κs = search needs
 
 returns : tie.Need-returns
 returns c = search needs
 
 too-long-requires : tie.Need-too-long-requires
 too-long-requires c κs = search needs
+
+stay-requires : tie.Need-stay-requires
+stay-requires c κs = search needs
 
 returns-2 : tie.Need-returns-2
 returns-2 c = search needs
@@ -35,9 +32,8 @@ answered-spec =
     (tie.spec
     slice-aggregate-read
     read-requires
-    under-requires
-    of-requires
-    act-requires
+    understood-requires
     returns
     too-long-requires
+    stay-requires
     returns-2)

@@ -5,16 +5,19 @@ use Rattle.hand.proofs.desk.marked.Statement.{statement}
 use Rattle.hand.proofs.desk.marked.Tie as tie
 
 abbrev Inv-loop : tie.InvT-loop
-Inv-loop before after s freed r₀ i₀ r i = i ≤ 64
+Inv-loop set node r₀ i₀ r i = i ≤ 64
 
 abbrev μ-loop : tie.MeasureT-loop
-μ-loop before after s freed r₀ i₀ r i = 64 - i
+μ-loop set node r₀ i₀ r i = 64 - i
 
 loop-holds : tie.Need-loop-holds Inv-loop μ-loop
 loop-holds c = search needs
 
-is-new-requires : tie.Need-is-new-requires Inv-loop μ-loop
-is-new-requires c κs = search needs
+has-requires : tie.Need-has-requires Inv-loop μ-loop
+has-requires c κs = search needs
+
+wide-requires : tie.Need-wide-requires Inv-loop μ-loop
+wide-requires c κs = search needs
 
 array-write-r : tie.Need-array-write-r Inv-loop μ-loop
 array-write-r c = search needs
@@ -38,7 +41,8 @@ marked-spec =
     Inv-loop
     μ-loop
     loop-holds
-    is-new-requires
+    has-requires
+    wide-requires
     array-write-r
     add-i
     loop-less

@@ -5,19 +5,16 @@ use Rattle.hand.proofs.message.entries.Statement.{statement}
 use Rattle.hand.proofs.message.entries.Tie as tie
 
 abbrev Inv-loop : tie.InvT-loop
-Inv-loop k l n i₀ t6 i = i ≤ 16
+Inv-loop s l who n i₀ t7 t8 i = i ≤ 16
 
 abbrev μ-loop : tie.MeasureT-loop
-μ-loop k l n i₀ t6 i = 16 - i
+μ-loop s l who n i₀ t7 t8 i = 16 - i
 
 wide-requires : tie.Need-wide-requires Inv-loop μ-loop
 wide-requires c κs = search needs
 
 returns : tie.Need-returns Inv-loop μ-loop
 returns c = search needs
-
-next-line-requires : tie.Need-next-line-requires Inv-loop μ-loop
-next-line-requires c κs = search needs
 
 slice-aggregate-text : tie.Need-slice-aggregate-text Inv-loop μ-loop
 slice-aggregate-text c = search needs
@@ -49,8 +46,20 @@ text-requires-2 c κs = search needs
 gap-requires : tie.Need-gap-requires Inv-loop μ-loop
 gap-requires c κs = search needs
 
-errand-requires : tie.Need-errand-requires Inv-loop μ-loop
-errand-requires c κs = search needs
+slice-aggregate-row : tie.Need-slice-aggregate-row Inv-loop μ-loop
+slice-aggregate-row c = search needs
+
+digit-requires : tie.Need-digit-requires Inv-loop μ-loop
+digit-requires c κs = search needs
+
+row-requires : tie.Need-row-requires Inv-loop μ-loop
+row-requires c κs = search needs
+
+at-requires : tie.Need-at-requires Inv-loop μ-loop
+at-requires c κs = search needs
+
+say-requires : tie.Need-say-requires Inv-loop μ-loop
+say-requires c κs = search needs
 
 returns-2 : tie.Need-returns-2 Inv-loop μ-loop
 returns-2 c = search needs
@@ -63,7 +72,6 @@ entries-spec =
     μ-loop
     wide-requires
     returns
-    next-line-requires
     slice-aggregate-text
     text-requires
     loop-holds
@@ -74,5 +82,9 @@ entries-spec =
     slice-aggregate-text-2
     text-requires-2
     gap-requires
-    errand-requires
+    slice-aggregate-row
+    digit-requires
+    row-requires
+    at-requires
+    say-requires
     returns-2)

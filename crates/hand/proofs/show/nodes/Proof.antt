@@ -5,19 +5,31 @@ use Rattle.hand.proofs.show.nodes.Statement.{statement}
 use Rattle.hand.proofs.show.nodes.Tie as tie
 
 abbrev Inv-loop : tie.InvT-loop
-Inv-loop b n i₀ i = i ≤ 8
+Inv-loop b i₀ t5 t6 i = i ≤ 8
 
 abbrev μ-loop : tie.MeasureT-loop
-μ-loop b n i₀ i = 8 - i
-
-wide-requires : tie.Need-wide-requires Inv-loop μ-loop
-wide-requires c κs = search needs
+μ-loop b i₀ t5 t6 i = 8 - i
 
 loop-holds : tie.Need-loop-holds Inv-loop μ-loop
 loop-holds c = search needs
 
-node-requires : tie.Need-node-requires Inv-loop μ-loop
-node-requires c κs = search needs
+slice-aggregate-say : tie.Need-slice-aggregate-say Inv-loop μ-loop
+slice-aggregate-say c = search needs
+
+say-requires : tie.Need-say-requires Inv-loop μ-loop
+say-requires c κs = search needs
+
+processes-of-requires : tie.Need-processes-of-requires Inv-loop μ-loop
+processes-of-requires c κs = search needs
+
+objects-of-requires : tie.Need-objects-of-requires Inv-loop μ-loop
+objects-of-requires c κs = search needs
+
+slice-aggregate-text-if : tie.Need-slice-aggregate-text-if Inv-loop μ-loop
+slice-aggregate-text-if c = search needs
+
+text-if-requires : tie.Need-text-if-requires Inv-loop μ-loop
+text-if-requires c κs = search needs
 
 add-i : tie.Need-add-i Inv-loop μ-loop
 add-i c = search needs
@@ -37,9 +49,13 @@ nodes-spec =
     (tie.spec
     Inv-loop
     μ-loop
-    wide-requires
     loop-holds
-    node-requires
+    slice-aggregate-say
+    say-requires
+    processes-of-requires
+    objects-of-requires
+    slice-aggregate-text-if
+    text-if-requires
     add-i
     loop-less
     loop-again

@@ -5,22 +5,19 @@ use Rattle.hand.proofs.show.processes_of.Statement.{statement}
 use Rattle.hand.proofs.show.processes_of.Tie as tie
 
 abbrev Inv-loop : tie.InvT-loop
-Inv-loop node b n some₀ i₀ some i = i ≤ 16
+Inv-loop node b some₀ i₀ some i = i ≤ 16
 
 abbrev μ-loop : tie.MeasureT-loop
-μ-loop node b n some₀ i₀ some i = 16 - i
-
-wide-requires : tie.Need-wide-requires Inv-loop μ-loop
-wide-requires c κs = search needs
+μ-loop node b some₀ i₀ some i = 16 - i
 
 loop-holds : tie.Need-loop-holds Inv-loop μ-loop
 loop-holds c = search needs
 
-element-copy-out-wide : tie.Need-element-copy-out-wide Inv-loop μ-loop
-element-copy-out-wide c = search needs
+wide-requires : tie.Need-wide-requires Inv-loop μ-loop
+wide-requires c κs = search needs
 
-wide-requires-2 : tie.Need-wide-requires-2 Inv-loop μ-loop
-wide-requires-2 c κs = search needs
+element-copy-out-if1 : tie.Need-element-copy-out-if1 Inv-loop μ-loop
+element-copy-out-if1 c = search needs
 
 mul-process-line : tie.Need-mul-process-line Inv-loop μ-loop
 mul-process-line c = search needs
@@ -49,10 +46,9 @@ processes-of-spec =
     (tie.spec
     Inv-loop
     μ-loop
-    wide-requires
     loop-holds
-    element-copy-out-wide
-    wide-requires-2
+    wide-requires
+    element-copy-out-if1
     mul-process-line
     element-copy-out-process-line
     process-line-requires

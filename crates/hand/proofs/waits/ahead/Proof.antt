@@ -13,6 +13,9 @@ abbrev μ-loop : tie.MeasureT-loop
 loop-holds : tie.Need-loop-holds Inv-loop μ-loop
 loop-holds c = search needs
 
+wide-requires : tie.Need-wide-requires Inv-loop μ-loop
+wide-requires c κs = search needs
+
 element-copy-out-tell-if : tie.Need-element-copy-out-tell-if Inv-loop μ-loop
 element-copy-out-tell-if c = search needs
 
@@ -44,6 +47,7 @@ ahead-spec =
     Inv-loop
     μ-loop
     loop-holds
+    wide-requires
     element-copy-out-tell-if
     slice-aggregate-tell-if
     has-requires

@@ -5,19 +5,10 @@ use Rattle.hand.proofs.waits.all.Statement.{statement}
 use Rattle.hand.proofs.waits.all.Tie as tie
 
 abbrev Inv-loop : tie.InvT-loop
-Inv-loop b node₀ node = node ≤ 8
+Inv-loop b some₀ node₀ t4 some node = node ≤ 8
 
 abbrev μ-loop : tie.MeasureT-loop
-μ-loop b node₀ node = 8 - node
-
-standing-requires : tie.Need-standing-requires Inv-loop μ-loop
-standing-requires c κs = search needs
-
-slice-aggregate-text : tie.Need-slice-aggregate-text Inv-loop μ-loop
-slice-aggregate-text c = search needs
-
-text-requires : tie.Need-text-requires Inv-loop μ-loop
-text-requires c κs = search needs
+μ-loop b some₀ node₀ t4 some node = 8 - node
 
 loop-holds : tie.Need-loop-holds Inv-loop μ-loop
 loop-holds c = search needs
@@ -34,6 +25,12 @@ loop-less c = search needs
 loop-again : tie.Need-loop-again Inv-loop μ-loop
 loop-again c = search needs
 
+slice-aggregate-text-if : tie.Need-slice-aggregate-text-if Inv-loop μ-loop
+slice-aggregate-text-if c = search needs
+
+text-if-requires : tie.Need-text-if-requires Inv-loop μ-loop
+text-if-requires c κs = search needs
+
 returns : tie.Need-returns Inv-loop μ-loop
 returns c = search needs
 
@@ -43,12 +40,11 @@ all-spec =
     (tie.spec
     Inv-loop
     μ-loop
-    standing-requires
-    slice-aggregate-text
-    text-requires
     loop-holds
     at-node-requires
     add-node
     loop-less
     loop-again
+    slice-aggregate-text-if
+    text-if-requires
     returns)

@@ -5,13 +5,16 @@ use Rattle.hand.proofs.waits.at_node.Statement.{statement}
 use Rattle.hand.proofs.waits.at_node.Tie as tie
 
 abbrev Inv-loop : tie.InvT-loop
-Inv-loop node b i₀ i = i ≤ 16
+Inv-loop node b some₀ i₀ some i = i ≤ 16
 
 abbrev μ-loop : tie.MeasureT-loop
-μ-loop node b i₀ i = 16 - i
+μ-loop node b some₀ i₀ some i = 16 - i
 
 loop-holds : tie.Need-loop-holds Inv-loop μ-loop
 loop-holds c = search needs
+
+wide-requires : tie.Need-wide-requires Inv-loop μ-loop
+wide-requires c κs = search needs
 
 element-copy-out-if1 : tie.Need-element-copy-out-if1 Inv-loop μ-loop
 element-copy-out-if1 c = search needs
@@ -44,6 +47,7 @@ at-node-spec =
     Inv-loop
     μ-loop
     loop-holds
+    wide-requires
     element-copy-out-if1
     mul-in-line
     element-copy-out-in-line

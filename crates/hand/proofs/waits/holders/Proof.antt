@@ -5,25 +5,19 @@ use Rattle.hand.proofs.waits.holders.Statement.{statement}
 use Rattle.hand.proofs.waits.holders.Tie as tie
 
 abbrev Inv-loop : tie.InvT-loop
-Inv-loop w shared exclusive q₀ t5 q = q ≤ 16
+Inv-loop w o q₀ t4 q = q ≤ 16
 
 abbrev μ-loop : tie.MeasureT-loop
-μ-loop w shared exclusive q₀ t5 q = 16 - q
+μ-loop w o q₀ t4 q = 16 - q
 
 loop-holds : tie.Need-loop-holds Inv-loop μ-loop
 loop-holds c = search needs
-
-wide-requires : tie.Need-wide-requires Inv-loop μ-loop
-wide-requires c κs = search needs
 
 has-requires : tie.Need-has-requires Inv-loop μ-loop
 has-requires c κs = search needs
 
 slice-aggregate-tell-if : tie.Need-slice-aggregate-tell-if Inv-loop μ-loop
 slice-aggregate-tell-if c = search needs
-
-wide-requires-2 : tie.Need-wide-requires-2 Inv-loop μ-loop
-wide-requires-2 c κs = search needs
 
 has-requires-2 : tie.Need-has-requires-2 Inv-loop μ-loop
 has-requires-2 c κs = search needs
@@ -50,10 +44,8 @@ holders-spec =
     Inv-loop
     μ-loop
     loop-holds
-    wide-requires
     has-requires
     slice-aggregate-tell-if
-    wide-requires-2
     has-requires-2
     tell-if-requires
     add-q

@@ -5,25 +5,28 @@ use Rattle.hand.proofs.waits.in_line.Statement.{statement}
 use Rattle.hand.proofs.waits.in_line.Tie as tie
 
 abbrev Inv-loop : tie.InvT-loop
-Inv-loop number home o n k₀ k = k ≤ 16
+Inv-loop number home o k₀ k = k ≤ 16
 
 abbrev μ-loop : tie.MeasureT-loop
-μ-loop number home o n k₀ k = 16 - k
-
-wide-requires : tie.Need-wide-requires Inv-loop μ-loop
-wide-requires c κs = search needs
+μ-loop number home o k₀ k = 16 - k
 
 returns : tie.Need-returns Inv-loop μ-loop
 returns c = search needs
 
-heading-requires : tie.Need-heading-requires Inv-loop μ-loop
-heading-requires c κs = search needs
+slice-aggregate-say : tie.Need-slice-aggregate-say Inv-loop μ-loop
+slice-aggregate-say c = search needs
+
+say-requires : tie.Need-say-requires Inv-loop μ-loop
+say-requires c κs = search needs
 
 loop-holds : tie.Need-loop-holds Inv-loop μ-loop
 loop-holds c = search needs
 
-element-copy-out-t14 : tie.Need-element-copy-out-t14 Inv-loop μ-loop
-element-copy-out-t14 c = search needs
+wide-requires : tie.Need-wide-requires Inv-loop μ-loop
+wide-requires c κs = search needs
+
+element-copy-out-t19 : tie.Need-element-copy-out-t19 Inv-loop μ-loop
+element-copy-out-t19 c = search needs
 
 has-requires : tie.Need-has-requires Inv-loop μ-loop
 has-requires c κs = search needs
@@ -52,11 +55,12 @@ in-line-spec =
     (tie.spec
     Inv-loop
     μ-loop
-    wide-requires
     returns
-    heading-requires
+    slice-aggregate-say
+    say-requires
     loop-holds
-    element-copy-out-t14
+    wide-requires
+    element-copy-out-t19
     has-requires
     holders-requires
     ahead-requires

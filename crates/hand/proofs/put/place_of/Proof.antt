@@ -1,21 +1,21 @@
--- `hand::say::row_end` is safe and ends. The loop's measure is what is left of the table. Assumes nothing.
+-- `hand::put::place_of` is safe and ends. The loop passes only places of the bytes, from the first on. The measure is what is left of them. Assumes nothing.
 use Prim.Native.Nat.{_≤_, _-_}
 use lib.ListN.{length}
 use borrow.Author.Needs.{needs}
-use Rattle.hand.proofs.say.row_end.Statement.{statement}
-use Rattle.hand.proofs.say.row_end.Tie as tie
+use Rattle.hand.proofs.put.place_of.Statement.{statement}
+use Rattle.hand.proofs.put.place_of.Tie as tie
 
 abbrev Inv-loop : tie.InvT-loop
-Inv-loop table from i₀ i = 0 ≤ i
+Inv-loop s one other from i₀ i = (from ≤ i) × (i ≤ length s)
 
 abbrev μ-loop : tie.MeasureT-loop
-μ-loop table from i₀ i = length table - i
+μ-loop s one other from i₀ i = length s - i
 
 loop-holds : tie.Need-loop-holds Inv-loop μ-loop
 loop-holds c = search needs
 
-shared-slice-read-if1 : tie.Need-shared-slice-read-if1 Inv-loop μ-loop
-shared-slice-read-if1 c = search needs
+shared-slice-read-byte : tie.Need-shared-slice-read-byte Inv-loop μ-loop
+shared-slice-read-byte c = search needs
 
 returns : tie.Need-returns Inv-loop μ-loop
 returns c = search needs
@@ -32,14 +32,14 @@ loop-again c = search needs
 returns-2 : tie.Need-returns-2 Inv-loop μ-loop
 returns-2 c = search needs
 
-pub row-end-spec : {M : Type 1} → statement M
-row-end-spec =
+pub place-of-spec : {M : Type 1} → statement M
+place-of-spec =
     tie.close
     (tie.spec
     Inv-loop
     μ-loop
     loop-holds
-    shared-slice-read-if1
+    shared-slice-read-byte
     returns
     add-i
     loop-less
