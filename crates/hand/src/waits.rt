@@ -1,53 +1,80 @@
 // Who waits for whom, why, and at which node: each wait stands in a line, and the home of the object has the line. Only lines count, not
-// requests still travelling.
+// requests still travelling. Whom a process waits for is asked of the tests that the handlers themselves go by.
+ghost use mathlib.Core.Path.{_≡_};
+ghost use Prim.Native.Nat.{_<_, _≤_};
+ghost use Rattle.rules.specs.Book as Book;
 use crate::put::digit;
 use crate::put::say;
 use crate::put::text_if;
 use rules::Board;
+use rules::Mode;
 use rules::Object;
 use values::bits::has;
 use values::bits::wide;
+use values::mode::is_exclusive;
 
-// One process of a line, and its mode.
-pub struct Waiter {
-    pub process: u8,
-    pub exclusive: bool,
-}
-
-// Another process, in a mode, with the reason: two holds conflict unless both are shared.
-fn tell_if(w: Waiter, q: u8, reason: &[u8], exclusive: bool) {
-    if (q != w.process) & (exclusive | w.exclusive) {
-        say(reason, [w.process, digit(w.exclusive), q, digit(exclusive)]);
-    }
-}
-
-fn holders(w: Waiter, o: Object) {
+// Those who hold the object in conflict with process p in the mode, by rising number.
+fn holders(o: Object, p: u8, m: Mode)
+    requires { ⌜ p < 16 ⌝ }
+{
+    let rivals = objects::rivals(o, p, m);
     let mut q: u8 = 0;
     while q < 16 {
-        if has(o.shared | o.exclusive, q) {
-            tell_if(
-                w,
-                q,
+        if has(rivals, q) {
+            say(
                 b"  p# (?) waits for p#, which holds it in conflict (?)\n",
-                has(o.exclusive, q),
+                [p, digit(is_exclusive(m)), q, digit(has(o.exclusive, q))],
             );
         }
         q += 1;
     }
 }
 
-fn ahead(w: Waiter, o: Object, k: u8) {
+// The one at place j of the line is another than p and conflicts with the mode.
+fn bars(o: Object, p: u8, m: Mode, j: u8) -> bool
+    requires { ⌜ j < 16 ⌝ }
+    ensures { λ r. ⌜ r ≡ Book.bars o p m j ⌝ }
+{
+    let at = wide(j);
+    if o.line[at] == p {
+        return false;
+    }
+    if is_exclusive(m) {
+        return true;
+    }
+    is_exclusive(objects::mode_at(o, j))
+}
+
+// Those who stand ahead of place k in conflict with process p in the mode, from the front.
+fn ahead(o: Object, p: u8, m: Mode, k: u8)
+    requires { ⌜ k ≤ 16 ⌝ }
+{
     let mut j: u8 = 0;
-    while j < 16 {
-        if j < k {
-            tell_if(
-                w,
-                o.line[wide(j)],
+    while j < k {
+        if bars(o, p, m, j) {
+            say(
                 b"  p# (?) waits for p#, which stands ahead in conflict (?)\n",
-                has(o.line_exclusive, j),
+                [
+                    p,
+                    digit(is_exclusive(m)),
+                    o.line[wide(j)],
+                    digit(has(o.line_exclusive, j)),
+                ],
             );
         }
         j += 1;
+    }
+}
+
+// Whom the process at place k of the line waits for. In the lines of a board in shape every number is below 16.
+fn at_place(o: Object, k: u8)
+    requires { ⌜ k < 16 ⌝ }
+{
+    let p = o.line[wide(k)];
+    let m = objects::mode_at(o, k);
+    if p < 16 {
+        holders(o, p, m);
+        ahead(o, p, m, k);
     }
 }
 
@@ -60,12 +87,7 @@ fn in_line(number: u8, home: u8, o: Object) -> bool {
     let mut k: u8 = 0;
     while k < 16 {
         if k < o.line_count {
-            let w = Waiter {
-                process: o.line[wide(k)],
-                exclusive: has(o.line_exclusive, k),
-            };
-            holders(w, o);
-            ahead(w, o, k);
+            at_place(o, k);
         }
         k += 1;
     }

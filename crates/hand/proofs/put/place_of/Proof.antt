@@ -1,4 +1,4 @@
--- `hand::put::place_of` is safe and ends. The loop passes only places of the bytes, from the first on. The measure is what is left of them. Assumes nothing.
+-- `hand::put::place_of` is safe and ends. The loop stays in the bytes. The measure is what is left of them. Assumes nothing.
 use Prim.Native.Nat.{_≤_, _-_}
 use lib.ListN.{length}
 use borrow.Author.Needs.{needs}

@@ -1,32 +1,44 @@
--- `hand::waits::ahead` is safe and ends. The loop counts the 16 places of a line. Assumes nothing.
+-- `hand::waits::ahead` is safe and ends. The loop counts the places ahead. Assumes nothing.
 use Prim.Native.Nat.{_≤_, _-_}
 use borrow.Author.Needs.{needs}
 use Rattle.hand.proofs.waits.ahead.Statement.{statement}
 use Rattle.hand.proofs.waits.ahead.Tie as tie
 
 abbrev Inv-loop : tie.InvT-loop
-Inv-loop w k o j₀ t6 j = j ≤ 16
+Inv-loop p m k o j₀ t7 j = (j ≤ k) × (k ≤ 16)
 
 abbrev μ-loop : tie.MeasureT-loop
-μ-loop w k o j₀ t6 j = 16 - j
+μ-loop p m k o j₀ t7 j = k - j
 
 loop-holds : tie.Need-loop-holds Inv-loop μ-loop
 loop-holds c = search needs
 
+bars-requires : tie.Need-bars-requires Inv-loop μ-loop
+bars-requires c κs = search needs
+
+slice-aggregate-say : tie.Need-slice-aggregate-say Inv-loop μ-loop
+slice-aggregate-say c = search needs
+
+is-exclusive-requires : tie.Need-is-exclusive-requires Inv-loop μ-loop
+is-exclusive-requires c κs = search needs
+
+digit-requires : tie.Need-digit-requires Inv-loop μ-loop
+digit-requires c κs = search needs
+
 wide-requires : tie.Need-wide-requires Inv-loop μ-loop
 wide-requires c κs = search needs
 
-element-copy-out-tell-if : tie.Need-element-copy-out-tell-if Inv-loop μ-loop
-element-copy-out-tell-if c = search needs
-
-slice-aggregate-tell-if : tie.Need-slice-aggregate-tell-if Inv-loop μ-loop
-slice-aggregate-tell-if c = search needs
+element-copy-out-t19 : tie.Need-element-copy-out-t19 Inv-loop μ-loop
+element-copy-out-t19 c = search needs
 
 has-requires : tie.Need-has-requires Inv-loop μ-loop
 has-requires c κs = search needs
 
-tell-if-requires : tie.Need-tell-if-requires Inv-loop μ-loop
-tell-if-requires c κs = search needs
+digit-requires-2 : tie.Need-digit-requires-2 Inv-loop μ-loop
+digit-requires-2 c κs = search needs
+
+say-requires : tie.Need-say-requires Inv-loop μ-loop
+say-requires c κs = search needs
 
 add-j : tie.Need-add-j Inv-loop μ-loop
 add-j c = search needs
@@ -47,11 +59,15 @@ ahead-spec =
     Inv-loop
     μ-loop
     loop-holds
+    bars-requires
+    slice-aggregate-say
+    is-exclusive-requires
+    digit-requires
     wide-requires
-    element-copy-out-tell-if
-    slice-aggregate-tell-if
+    element-copy-out-t19
     has-requires
-    tell-if-requires
+    digit-requires-2
+    say-requires
     add-j
     loop-less
     loop-again

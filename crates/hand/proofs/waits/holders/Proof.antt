@@ -5,10 +5,13 @@ use Rattle.hand.proofs.waits.holders.Statement.{statement}
 use Rattle.hand.proofs.waits.holders.Tie as tie
 
 abbrev Inv-loop : tie.InvT-loop
-Inv-loop w o q₀ t4 q = q ≤ 16
+Inv-loop o p m rivals q₀ t6 q = q ≤ 16
 
 abbrev μ-loop : tie.MeasureT-loop
-μ-loop w o q₀ t4 q = 16 - q
+μ-loop o p m rivals q₀ t6 q = 16 - q
+
+rivals-requires : tie.Need-rivals-requires Inv-loop μ-loop
+rivals-requires c κs = search needs
 
 loop-holds : tie.Need-loop-holds Inv-loop μ-loop
 loop-holds c = search needs
@@ -16,14 +19,23 @@ loop-holds c = search needs
 has-requires : tie.Need-has-requires Inv-loop μ-loop
 has-requires c κs = search needs
 
-slice-aggregate-tell-if : tie.Need-slice-aggregate-tell-if Inv-loop μ-loop
-slice-aggregate-tell-if c = search needs
+slice-aggregate-say : tie.Need-slice-aggregate-say Inv-loop μ-loop
+slice-aggregate-say c = search needs
+
+is-exclusive-requires : tie.Need-is-exclusive-requires Inv-loop μ-loop
+is-exclusive-requires c κs = search needs
+
+digit-requires : tie.Need-digit-requires Inv-loop μ-loop
+digit-requires c κs = search needs
 
 has-requires-2 : tie.Need-has-requires-2 Inv-loop μ-loop
 has-requires-2 c κs = search needs
 
-tell-if-requires : tie.Need-tell-if-requires Inv-loop μ-loop
-tell-if-requires c κs = search needs
+digit-requires-2 : tie.Need-digit-requires-2 Inv-loop μ-loop
+digit-requires-2 c κs = search needs
+
+say-requires : tie.Need-say-requires Inv-loop μ-loop
+say-requires c κs = search needs
 
 add-q : tie.Need-add-q Inv-loop μ-loop
 add-q c = search needs
@@ -43,11 +55,15 @@ holders-spec =
     (tie.spec
     Inv-loop
     μ-loop
+    rivals-requires
     loop-holds
     has-requires
-    slice-aggregate-tell-if
+    slice-aggregate-say
+    is-exclusive-requires
+    digit-requires
     has-requires-2
-    tell-if-requires
+    digit-requires-2
+    say-requires
     add-q
     loop-less
     loop-again

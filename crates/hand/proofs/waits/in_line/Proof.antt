@@ -22,20 +22,8 @@ say-requires c κs = search needs
 loop-holds : tie.Need-loop-holds Inv-loop μ-loop
 loop-holds c = search needs
 
-wide-requires : tie.Need-wide-requires Inv-loop μ-loop
-wide-requires c κs = search needs
-
-element-copy-out-t19 : tie.Need-element-copy-out-t19 Inv-loop μ-loop
-element-copy-out-t19 c = search needs
-
-has-requires : tie.Need-has-requires Inv-loop μ-loop
-has-requires c κs = search needs
-
-holders-requires : tie.Need-holders-requires Inv-loop μ-loop
-holders-requires c κs = search needs
-
-ahead-requires : tie.Need-ahead-requires Inv-loop μ-loop
-ahead-requires c κs = search needs
+at-place-requires : tie.Need-at-place-requires Inv-loop μ-loop
+at-place-requires c κs = search needs
 
 add-k : tie.Need-add-k Inv-loop μ-loop
 add-k c = search needs
@@ -59,11 +47,7 @@ in-line-spec =
     slice-aggregate-say
     say-requires
     loop-holds
-    wide-requires
-    element-copy-out-t19
-    has-requires
-    holders-requires
-    ahead-requires
+    at-place-requires
     add-k
     loop-less
     loop-again
