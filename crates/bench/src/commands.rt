@@ -1,4 +1,4 @@
-// One command by value: a sheet of one command through the engine.
+// One command by value: one packed command through the engine.
 ghost use mathlib.Core.Path.{_≡_};
 ghost use mathlib.Core.List.{[], _∷_};
 ghost use Rattle.rules.specs.declared.Command.the-variants as Do;

@@ -1,4 +1,4 @@
-// The shape of a board, asked once for each public call; the engine may then run.
+// The shape, asked once at the start of each call on a board: on a board in shape the engine may run.
 ghost use mathlib.Core.Path.{_≡_};
 ghost use mathlib.Core.Bool.{true};
 ghost use Rattle.rules.specs.Shape.{inShape};

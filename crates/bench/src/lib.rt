@@ -53,7 +53,7 @@ pub fn deliver(b: Board, n: u8) -> Stepped
     step(b, Command::Deliver(n))
 }
 
-// Nothing is run: the answer, and the board as it is.
+// Nothing is run: the answer, no command, and the board that is given.
 fn refused(a: Answer, b: Board) -> Ran
     ensures { λ r. ⌜ r ≡ Sheet.refusedRun a b [] .ran ⌝ }
 {
@@ -82,7 +82,8 @@ pub fn run(b: Board, s: &[u8], room: &mut [u8]) -> Ran
     engine::turns(b, s, false, n, room, counts::load(b))
 }
 
-// An opening, and packed commands on it. An opening is in shape, so the shape is not asked. Where it is refused, the board is all zeros.
+// An opening, and packed commands on it. An opening is in shape, so the shape is not asked. Where the call is refused, for any reason,
+// the board is all zeros.
 pub fn run_opening(
     nodes: u8,
     processes: u8,
@@ -121,6 +122,7 @@ pub fn drain(b: Board, budget: usize) -> Drained
             board: b,
         };
     }
+    // The engine reads no command of a drain; the room takes the answers, which are not kept.
     let s = [0u8; 2];
     let mut room = [0u8; 1];
     let r = engine::turns(b, &s, true, budget, &mut room, counts::load(b));

@@ -2,7 +2,7 @@
 use mathlib.Core.Path.{_≡_, _∙_}
 use mathlib.Core.Bool.{Bool, true, false}
 use mathlib.Core.List.{List, [], _∷_}
-use Prim.Native.Nat.{ℕ, zero, suc, _≤_}
+use Prim.Native.Nat.{ℕ, _≤_}
 use native.Mathlib.Omega.{arith}
 use lib.Dec.{eqb}
 use lib.ListN.{length, length-set}
@@ -21,7 +21,6 @@ use Rattle.rules.specs.Home.{asking, dropping}
 use Rattle.rules.specs.Lists.{plain, starterOf, askedOf, listAtHome, listAtObject, keeping, requestArrives}
 use Rattle.rules.specs.Board.{noFlight, processAt, objectAt, kindAt, listAt, ringAt, putProcess, putObject, putRing, freed, send, sendGrants, kindLoad, load}
 use Rattle.rules.specs.Commands.{modeOf, recording, arriving, requested, released, delivered, effect, answerTo, turn}
-use Rattle.rules.specs.Sheet.{commandAt, boardAfter}
 use Rattle.rules.specs.Ranges.{Ranged}
 use Rattle.rules.proofs.Tables.{sum-bound}
 use Rattle.rules.proofs.Load.{Matched, matched-freed, matched-send, sized-send}
@@ -63,11 +62,6 @@ turn-ready b c r = record {
   ranged = turn-ranged b c (r .ranged);
   matched = by-pick Matched (done (answerTo b c)) (λ _. effect-matched b c (r .ranged .flights) (r .matched)) (λ _. r .matched);
 }
-
-pub sheet-ready : (b : Board) (s : List ℕ) (i : ℕ) → Ready b → Ready (boardAfter b s i)
-unfolding boardAfter
-sheet-ready b s zero r = r
-sheet-ready b s (suc i) r = turn-ready (boardAfter b s i) (commandAt s i) (sheet-ready b s i r)
 
 -- ---- the load is small
 kind-load-most : (k : Kind) → kindLoad k ≤ 2

@@ -1,9 +1,9 @@
 -- A message that is sent takes the lowest free number: what the engine writes, by what it found, and its load.
-use mathlib.Core.Path.{_≡_, refl, sym, ap, _∙_}
+use mathlib.Core.Path.{_≡_, sym, ap, _∙_}
 use mathlib.Core.Logic.{_≢_}
 use mathlib.Core.Bool.{true, false}
-use mathlib.Core.List.{List, [], _∷_}
-use Prim.Native.Nat.{ℕ, zero, suc, _+_, _-_, _≤_, _<_}
+use mathlib.Core.List.{List}
+use Prim.Native.Nat.{ℕ, _+_, _-_, _≤_, _<_}
 use native.Mathlib.Omega.{arith}
 use lib.ListN.{set, getD, length}
 use Rattle.rules.specs.declared.Kind.{Kind}
@@ -16,16 +16,12 @@ use Rattle.rules.specs.Lists.{noEntries}
 use Rattle.rules.specs.Board.{with, noFlight, objectAt, kindAt, putObject, putMessage, freed, isMessage, send, kindLoad, load}
 use Rattle.rules.proofs.Bits.{without-same, lowest-free, lowest-free-some}
 use Rattle.rules.proofs.Tables.{not-passed, not-failed}
+use Rattle.counts.proofs.Sums as Sums
 use Rattle.rules.proofs.Load.{Matched, message-load, no-message, matched-free, send-sent, load-freed, load-free-number, load-object}
 
 -- ---- a record that is read out of a table, with any default
 pub read-at : {A : Type 0} (xs : List A) (i j : ℕ) (d f : A) → i ≡ j → j < length xs → getD xs i d ≡ getD xs j f
-read-at {A = A} xs i j d f e l = rw e (go xs j l)
-  where
-    go : (ys : List A) (k : ℕ) → k < length ys → getD ys k d ≡ getD ys k f
-    go [] k l = absurd (omega (arith, l))
-    go (y ∷ ys) zero l = refl
-    go (y ∷ ys) (suc k) l = go ys k (omega (arith, l))
+read-at xs i j d f e l = rw e (Sums.read-at xs j d f l)
 
 -- a number that was just freed leaves one to take
 pub one-free : (occ n : ℕ) → n < 64 → lowestFree (withoutBit occ n) < 64

@@ -1,4 +1,4 @@
-// A release lets in the front of the line, one after another: a grant goes to each.
+// The grants of a release, one to each that was let in, by place of the line as it stood.
 ghost use mathlib.Core.Path.{_≡_};
 ghost use Prim.Native.Nat.{_-_, _≤_, _<_};
 ghost use Rattle.rules.specs.Board.{sendGrants};
@@ -11,21 +11,22 @@ use rules::Kind;
 use rules::Object;
 use values::bits::wide;
 
-// The grant to the one at place `k` of a line of object `o`.
-pub fn grant_at(line: Object, k: u8, o: u8) -> Kind
+// The grant to the one at place `k` of the line of object `o`.
+pub fn grant_at(book: Object, k: u8, o: u8) -> Kind
     requires { ⌜ k < 16 ⌝ }
-    ensures { λ r. ⌜ r ≡ Kinds.Grant (Book.whoAt line k) o (Book.modeAt line k) ⌝ }
+    ensures { λ r. ⌜ r ≡ Kinds.Grant (Book.whoAt book k) o (Book.modeAt book k) ⌝ }
 {
-    let places = line.line;
+    let places = book.line;
     let at = wide(k);
-    Kind::Grant(places[at], o, objects::mode_at(line, k))
+    Kind::Grant(places[at], o, objects::mode_at(book, k))
 }
 
 // The grants of a release after the first, to those next in the line as it stood, each under the lowest free number while there is
-// one. It sends and reads no book of the board. Several let in by one release are seldom, so the loop of the engine does not carry it.
-pub fn grant_rest(start: Board, line: Object, o: u8, granted: u8) -> Board
+// one. It writes messages only, and reads no book of the board. Several let in by one release are seldom, so the loop of the engine does
+// not carry it.
+pub fn grant_rest(start: Board, book: Object, o: u8, granted: u8) -> Board
     requires { ⌜ granted ≤ 16 ⌝ }
-    ensures { λ r. ⌜ r ≡ sendGrants start o (placesFrom line 1 (granted - 1)) ⌝ }
+    ensures { λ r. ⌜ r ≡ sendGrants start o (placesFrom book 1 (granted - 1)) ⌝ }
 {
     let mut b = start;
     let none = values::message::no_entries();
@@ -36,7 +37,7 @@ pub fn grant_rest(start: Board, line: Object, o: u8, granted: u8) -> Board
             break;
         }
         let flight = Flight {
-            kind: grant_at(line, k, o),
+            kind: grant_at(book, k, o),
         };
         b.flights[to] = flight;
         b.lists[to] = none;

@@ -1,5 +1,5 @@
-// The engine of the board: one loop that holds the board as one local and does every write but those of grants after a first. A handler
-// of a message sees the one book that it acts on. This is the inner room of the bench, which asks for the shape first.
+// The engine of the board: one loop that holds the board as a local. It makes every write itself but those of the second and later grants
+// of one release. Each handler is shown one book. Only the bench calls it, on a board that was tested for shape or on an opening.
 ghost use mathlib.Core.Path.{_≡_};
 ghost use Rattle.rules.specs.Board as Boards;
 ghost use Rattle.engine.specs.Ready.{Ready};
@@ -71,9 +71,7 @@ pub fn turns(start: Board, s: &[u8], lowest: bool, most: usize, room: &mut [u8],
         b.occupied = values::bits::without(b.occupied, num);
         let to = values::bits::lowest_free(b.occupied);
         match sort {
-            Kind::Free => {
-                continue;
-            }
+            Kind::Free => {}
             Kind::Request(q, x, mode) => {
                 let xi = wide(x);
                 let old = b.objects[xi];
@@ -103,13 +101,11 @@ pub fn turns(start: Board, s: &[u8], lowest: bool, most: usize, room: &mut [u8],
                 b.flights[to] = flight;
                 b.lists[to] = entries;
                 b.occupied = values::bits::with(b.occupied, to as u8);
-                continue;
             }
             Kind::Grant(q, x, mode) => {
                 let qi = wide(q);
                 let process = processes::granted(b.processes[qi], x, mode);
                 b.processes[qi] = process;
-                continue;
             }
             Kind::Release(q, x) => {
                 let xi = wide(x);
@@ -132,7 +128,6 @@ pub fn turns(start: Board, s: &[u8], lowest: bool, most: usize, room: &mut [u8],
                 }
                 b = crate::grants::grant_rest(b, struck, x, granted);
                 weight = counts::load(b);
-                continue;
             }
             Kind::ListToHome => {
                 let qi = wide(crate::packed::asked_of(list));
@@ -151,7 +146,6 @@ pub fn turns(start: Board, s: &[u8], lowest: bool, most: usize, room: &mut [u8],
                 b.flights[to] = flight;
                 b.lists[to] = entries;
                 b.occupied = values::bits::with(b.occupied, to as u8);
-                continue;
             }
             Kind::ListToObject(x) => {
                 let book = b.objects[wide(x)];
@@ -174,7 +168,6 @@ pub fn turns(start: Board, s: &[u8], lowest: bool, most: usize, room: &mut [u8],
                 b.flights[to] = flight;
                 b.lists[to] = entries;
                 b.occupied = values::bits::with(b.occupied, to as u8);
-                continue;
             }
         }
     }

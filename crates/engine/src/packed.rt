@@ -1,4 +1,5 @@
-// A command's fields from its two bytes; and what a request and a release have in common, by the kind's number.
+// A packed command, two bytes: its side, its answer, and what a request and a release do at home, by the kind's number. And whom a list
+// names: its starter, and the one that it asks next.
 ghost use mathlib.Core.Path.{_≡_};
 ghost use Prim.Native.Nat.{_<_, _+_, _*_, _/_, _%_};
 ghost use Rattle.rules.specs.Lists as Lists;

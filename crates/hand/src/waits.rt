@@ -1,8 +1,6 @@
 // Who waits for whom, why, and at which node: each wait stands in a line, and the home of the object has the line. Only lines count, not
 // requests still travelling. Whom a process waits for is asked of the tests that the handlers themselves go by.
-ghost use mathlib.Core.Path.{_≡_};
 ghost use Prim.Native.Nat.{_<_, _≤_};
-ghost use Rattle.rules.specs.Book as Book;
 use crate::put::digit;
 use crate::put::say;
 use crate::put::text_if;
@@ -30,34 +28,20 @@ fn holders(o: Object, p: u8, m: Mode)
     }
 }
 
-// The one at place j of the line is another than p and conflicts with the mode.
-fn bars(o: Object, p: u8, m: Mode, j: u8) -> bool
-    requires { ⌜ j < 16 ⌝ }
-    ensures { λ r. ⌜ r ≡ Book.bars o p m j ⌝ }
-{
-    let at = wide(j);
-    if o.line[at] == p {
-        return false;
-    }
-    if is_exclusive(m) {
-        return true;
-    }
-    is_exclusive(objects::mode_at(o, j))
-}
-
 // Those who stand ahead of place k in conflict with process p in the mode, from the front.
 fn ahead(o: Object, p: u8, m: Mode, k: u8)
     requires { ⌜ k ≤ 16 ⌝ }
 {
     let mut j: u8 = 0;
     while j < k {
-        if bars(o, p, m, j) {
+        let q = o.line[wide(j)];
+        if objects::bars(q, o.line_exclusive, p, m, j) {
             say(
                 b"  p# (?) waits for p#, which stands ahead in conflict (?)\n",
                 [
                     p,
                     digit(is_exclusive(m)),
-                    o.line[wide(j)],
+                    q,
                     digit(has(o.line_exclusive, j)),
                 ],
             );

@@ -1,5 +1,5 @@
--- How a list goes on: from the home of the entry asked next, and from an object. The place of an entry and the count of the entries stand
--- apart from the entries, so that a list that only goes on need not be written again.
+-- How a list goes on: from the home of the entry asked next, and from an object. A home needs no more of a list than the place of the
+-- entry asked next and the count of the entries.
 use Prim.Native.Nat.{ℕ, _+_}
 use mathlib.Core.Bool.{Bool, _&&_}
 use mathlib.Core.List.{List}

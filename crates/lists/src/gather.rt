@@ -1,8 +1,6 @@
 // Those that a process waits for, added to a list: holders by rising number, then those ahead in the line.
 ghost use mathlib.Core.Path.{_≡_};
 ghost use Prim.Native.Nat.{_<_, _≤_};
-ghost use mathlib.Core.Bool.{not, _&&_};
-ghost use lib.Dec.{eqb};
 ghost use Rattle.rules.specs.Bits as Bits;
 ghost use Rattle.rules.specs.Tables as Tables;
 ghost use Rattle.rules.specs.Book as Book;
@@ -57,20 +55,6 @@ fn add_set(start: Entries, fresh: u64, lead: u8) -> Entries
     }
 }
 
-// Process q, which stands at place i of a line of these exclusive places, is another than p and conflicts with the mode.
-pub fn bars(q: u8, exclusive: u64, p: u8, m: Mode, i: u8) -> bool
-    requires { ⌜ i < 16 ⌝ }
-    ensures { λ r. ⌜ r ≡ (not (eqb q p) && Book.conflict m (Book.modeIf (Bits.taken exclusive i))) ⌝ }
-{
-    if q == p {
-        return false;
-    }
-    if values::mode::is_exclusive(m) {
-        return true;
-    }
-    values::bits::has(exclusive, i)
-}
-
 // The list with those who stand ahead of place k of the line in conflict with the mode. Those listed already are marked.
 fn add_ahead(start: Entries, marks: u64, o: Object, p: u8, m: Mode, k: u8, lead: u8) -> Entries
     requires { ⌜ LineRanged o × (k ≤ 16) × (start .count < 16 → Marks start marks) ⌝ }
@@ -85,7 +69,7 @@ fn add_ahead(start: Entries, marks: u64, o: Object, p: u8, m: Mode, k: u8, lead:
     while i < k {
         let at = values::bits::wide(i);
         let q = line[at];
-        if !bars(q, o.line_exclusive, p, m, i) {
+        if !objects::bars(q, o.line_exclusive, p, m, i) {
             i += 1;
             continue;
         }

@@ -16,7 +16,7 @@ use rules::Wait;
 mod gather;
 pub mod ring;
 
-// One leg of the way of a list: what it is sent as, and the place of the entry asked next.
+// One leg of the way of a list: what it is sent as, and the place of the entry asked next; Free and 0 where the list ends.
 pub struct Leg {
     pub kind: Kind,
     pub next: u8,
@@ -57,7 +57,8 @@ pub fn onward(next: u8, count: u8, w: Wait) -> Leg
     }
 }
 
-// The list that p starts, which waits in the mode at place k. It has one entry where p waits for nobody.
+// The list that p starts on joining the line at place k in the mode; the book is that before it joined. It has one entry where p waits for
+// nobody.
 pub fn started(o: Object, p: u8, m: Mode, k: u8) -> Entries
     requires { ⌜ LineRanged o × (p < 16) × (k ≤ 16) ⌝ }
     ensures { λ r. ⌜ r ≡ Lists.addAll (Lists.starter p) 0 (Book.waitedFor o p m k) ⌝ }
@@ -103,7 +104,7 @@ fn is_ahead(o: Object, p: u8, m: Mode, k: u8, s: u8) -> bool
             i += 1;
             continue;
         }
-        if gather::bars(s, o.line_exclusive, p, m, i) {
+        if objects::bars(s, o.line_exclusive, p, m, i) {
             return true;
         }
         i += 1;

@@ -7,6 +7,9 @@ use prog.Routine.{Routine}
 use prog.Wp.{Heap}
 use ghost.Atoms.{Atoms}
 use contract.Monad.{Fun}
+use mathlib.Core.Bool.{not, _&&_}
+use lib.Dec.{eqb}
+use Rattle.rules.specs.Bits as Bits
 use Rattle.rules.specs.Book as Book
 use Rattle.rules.specs.Determined.{Determined}
 use Rattle.rules.proofs.Bits.{set-ext-all}
@@ -16,6 +19,7 @@ use Rattle.objects.specs.Sets.{SetOf}
 use Rattle.objects.proofs.rivals as rivals
 use Rattle.objects.proofs.is_clear as is-clear
 use Rattle.objects.proofs.mode_at as mode-at
+use Rattle.objects.proofs.bars as bars
 use Rattle.objects.proofs.hold as hold
 use Rattle.objects.proofs.strike as strike
 use Rattle.objects.proofs.join as join
@@ -34,6 +38,9 @@ module _ {M : Type 1} (𝓤 : URA M) (H : Heap 𝓤) (A : Atoms 𝓤) (mem : Mem
 
   pub mode-at-determined : Determined mode-at.ended (mode-at.clauses 𝓤 H A mem run) (λ κs r e. r)
   mode-at-determined = by-equation (λ κs a. Book.modeAt (a .0) (a .1 .0)) (λ κs a g r e. refl)
+
+  pub bars-determined : Determined bars.ended (bars.clauses 𝓤 H A mem run) (λ κs r e. r)
+  bars-determined = by-equation (λ κs a. not (eqb (a .0) (a .1 .1 .0)) && Book.conflict (a .1 .1 .1 .0) (Book.modeIf (Bits.taken (a .1 .0) (a .1 .1 .1 .1 .0)))) (λ κs a g r e. refl)
 
   pub hold-determined : Determined hold.ended (hold.clauses 𝓤 H A mem run) (λ κs r e. r)
   hold-determined = by-equation (λ κs a. Book.held (a .0) (a .1 .0) (a .1 .1 .0)) (λ κs a g r e. refl)

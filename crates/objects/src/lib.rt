@@ -2,7 +2,10 @@
 ghost use mathlib.Core.Path.{_≡_};
 ghost use Prim.Native.Nat.{_<_, _-_};
 ghost use mathlib.Core.List.{[], _∷_, _++_};
+ghost use mathlib.Core.Bool.{not, _&&_};
+ghost use lib.Dec.{eqb};
 ghost use lib.ListN.{drop};
+ghost use Rattle.rules.specs.Bits as Bits;
 ghost use Rattle.rules.specs.Book as Book;
 ghost use Rattle.rules.specs.Ranges.{LineRanged};
 ghost use Rattle.objects.specs.Fronts as Fronts;
@@ -35,6 +38,20 @@ pub fn mode_at(o: Object, k: u8) -> Mode
     ensures { λ r. ⌜ r ≡ Book.modeAt o k ⌝ }
 {
     values::mode::mode_if(values::bits::has(o.line_exclusive, k))
+}
+
+// Process q, at place i of a line whose exclusive places are given, is in the way of p: it is another, and the modes conflict.
+pub fn bars(q: u8, exclusive: u64, p: u8, m: Mode, i: u8) -> bool
+    requires { ⌜ i < 16 ⌝ }
+    ensures { λ r. ⌜ r ≡ (not (eqb q p) && Book.conflict m (Book.modeIf (Bits.taken exclusive i))) ⌝ }
+{
+    if q == p {
+        return false;
+    }
+    if values::mode::is_exclusive(m) {
+        return true;
+    }
+    values::bits::has(exclusive, i)
 }
 
 // The process becomes a holder, which replaces any hold that it has there.

@@ -1,7 +1,7 @@
 -- The homes of an opening: each of the first is a node, and those past the count are zero.
 use mathlib.Core.Path.{_≡_, refl, sym, ap, _∙_}
 use mathlib.Core.Logic.{_≢_}
-use mathlib.Core.Bool.{Bool, true, false, not}
+use mathlib.Core.Bool.{Bool, true}
 use mathlib.Core.List.{List}
 use Prim.Native.Nat.{ℕ, _+_, _≤_, _<_}
 use native.Mathlib.Omega.{arith}
@@ -11,11 +11,8 @@ use borrow.Author.Tests.{lt-ltb, le-ltb, leb-true}
 use lib.Dec.{ltb, leb}
 use lib.ListN.{getD, set, length, length-set, replicate}
 use lib.Seq.{ext-getD, getD-set-same, getD-set-other}
-use Rattle.rules.specs.declared.Answer.{Answer}
-use Rattle.rules.specs.declared.Answer.the-variants.{CountOutside}
-use Rattle.rules.specs.Answers.{number, firstOf}
 use Rattle.rules.specs.Tables.{pick, rows, all}
-use Rattle.rules.specs.Commands.{countFits, homesOf, openingTests}
+use Rattle.rules.specs.Commands.{countFits, homesOf}
 use Rattle.rules.proofs.Tables.{rows-at, rows-length, both, both-right}
 
 -- ---- counts

@@ -150,7 +150,7 @@ pub fn zero_board() -> Board
     empty_board(0, 0, 0, [0; 16], [0; 16])
 }
 
-// Counts of nodes, processes and objects, and the homes of the processes and of the objects.
+// An opening: its answer and its board, the board of zeros where it is refused.
 pub fn open(
     nodes: u8,
     processes: u8,

@@ -1,1 +1,2 @@
+-- Laws that the proofs share, and that the contracts determine.
 pub mod Determined

@@ -1,4 +1,4 @@
-// What the home of a process does: one message, one process's book.
+// What the home of a process does on a command and on a grant: one process's book.
 ghost use mathlib.Core.Path.{_≡_};
 ghost use Prim.Native.Nat.{_<_};
 ghost use Rattle.rules.specs.Answers as Answers;
@@ -65,7 +65,7 @@ pub fn granted(p: Process, o: u8, m: Mode) -> Process
     }
 }
 
-// The refusals of a request, in their order, but that of the load.
+// The refusals of a request, in their order, but those of the mode and of the load.
 pub fn request_answer(p: u8, o: u8, processes: u8, objects: u8, book: Process) -> Answer
     requires { ⌜ o < 16 ⌝ }
     ensures { λ r. ⌜ r ≡ Answers.firstOf (Tests.homeRequestTests p o processes objects book) ⌝ }

@@ -9,7 +9,6 @@ use Rattle.rules.specs.declared.Wait.{Wait}
 use Rattle.rules.specs.declared.Wait.the-variants.{NotWaiting, Waiting}
 use Rattle.rules.specs.declared.Board.{Board}
 use Rattle.rules.specs.declared.Command.{Command}
-use Rattle.rules.specs.declared.Command.the-variants as Do
 use Rattle.rules.specs.declared.Answer.the-variants.{OutOfShape}
 use Rattle.rules.specs.declared.Stepped.{Stepped}
 use Rattle.rules.specs.Answers.{number}

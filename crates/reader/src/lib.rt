@@ -1,4 +1,4 @@
-// A sheet is read through one reading place, which moves on bit by bit: the sheet, and the bit that is read next.
+// A sheet is read through one reading place, which moves on by the bits that are read: the sheet, and the bit that is read next.
 // The work is done on the sheet and a position, in the modules below; the functions over the reading place are thin.
 // Above them stand functions with plain parameters: what a sheet says before its commands, and what follows a bit.
 ghost use mathlib.Core.Path.{_≡_};

@@ -10,7 +10,7 @@ use lib.ListN.{length, getD, drop, length-drop, drop-of-length-le}
 use lib.Seq.{drop-cons, drop-drop}
 use Rattle.rules.proofs.Tables.{by-test}
 use Rattle.typed.specs.Words.{blank, ofSort, run, wordAt, wordsFrom, words}
-use Rattle.typed.specs.Spans.{part, NextWord}
+use Rattle.typed.specs.Spans.{NextWord}
 
 -- ---- one byte
 sort-blank : (c : ℕ) (t : Bool) → blank c ≡ t → ofSort true c ≡ t

@@ -31,7 +31,7 @@ pub fn number(a: Answer) -> u8
     }
 }
 
-// The answer of a number, as an answer byte has it.
+// The answer of a number, as an answer byte has it; above 17 always the last.
 pub fn answer_of(n: u8) -> Answer
     ensures { λ r. ⌜ r ≡ answerOf n ⌝ }
 {

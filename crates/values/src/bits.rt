@@ -1,4 +1,4 @@
-// Sets of numbers below 64, as the binary digits of a u64.
+// Sets of numbers below 64, as the binary digits of a u64; and a number as a place.
 ghost use mathlib.Core.Path.{_≡_};
 ghost use Prim.Native.Nat.{_<_, _≤_};
 ghost use Rattle.rules.specs.Bits as Bits;

@@ -1,5 +1,4 @@
-// Single values: sets as bits of a number, modes, counts, the numbers of the answers, the load of a message. Every other room stands on
-// these.
+// Single values: sets as bits of a number, modes, counts, the numbers of the answers, the load of a message. Most crates stand on these.
 pub mod answer;
 pub mod bits;
 pub mod count;

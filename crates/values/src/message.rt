@@ -1,4 +1,4 @@
-// The load of a message, and the list of one that is no list.
+// What a message adds to the load; and the entries beside a message that is no list: none.
 ghost use mathlib.Core.Path.{_≡_};
 ghost use Prim.Native.Nat.{_≤_};
 ghost use Rattle.rules.specs.Board as Boards;

@@ -23,7 +23,6 @@ use types.Part.{agg}
 use types.SemTy.{Body}
 use types.Tokens.{lft-new, lft-end}
 use sound.WpLaws.{FmC, fmOf, WpFn-mono}
-use denote.RattleType.{owns}
 use denote.Laws.{Is, shows}
 use denote.Memory.{mem, cellAt, partOf}
 use denote.Lend.{lends-ref, ref-back}

@@ -62,7 +62,7 @@ loop-again c =
     let m : Message = record { kind = c .before .grant-at .result; list = none .result } in
     let to = c .before .before .before .lowest-free in (
       v .inv .0,
-      grant-sent (v .b) (a .o) (a .line) (v .k) (a .granted) (sendGrants (a .start) (a .o) (placesFrom (a .line) 1 (a .granted - 1))) (v .inv .1) (c .before .before .before .before .loop-test .taken) (m .kind) (m .list) (c .before .grant-at .ensures) (none .ensures) _
+      grant-sent (v .b) (a .o) (a .book) (v .k) (a .granted) (sendGrants (a .start) (a .o) (placesFrom (a .book) 1 (a .granted - 1))) (v .inv .1) (c .before .before .before .before .loop-test .taken) (m .kind) (m .list) (c .before .grant-at .ensures) (none .ensures) _
           (put-sends (v .b) m (to .result) (c .with .result) (to .ensures .0) (c .with .ensures) (c .before .before .if1 .left) (ap isMessage (c .before .grant-at .ensures))),
     )
 
@@ -70,13 +70,13 @@ returns : tie.Need-returns Inv-loop μ-loop
 returns c =
     let v = c .before .loop in
     let a = c .before .before .before .args in
-    sym (grants-over (v .b) (a .o) (a .line) (v .k) (a .granted - v .k) (omega arith)) ∙ v .inv .1
+    sym (grants-over (v .b) (a .o) (a .book) (v .k) (a .granted - v .k) (omega arith)) ∙ v .inv .1
 
 returns-2 : tie.Need-returns-2 Inv-loop μ-loop
 returns-2 c =
     let v = c .before .before .before .loop in
     let a = c .before .before .before .before .before .args in
-    sym (grants-full (placesFrom (a .line) (v .k) (a .granted - v .k)) (v .b) (a .o) (omega (arith, c .before .lowest-free .ensures .0, c .if1 .taken))) ∙ v .inv .1
+    sym (grants-full (placesFrom (a .book) (v .k) (a .granted - v .k)) (v .b) (a .o) (omega (arith, c .before .lowest-free .ensures .0, c .if1 .taken))) ∙ v .inv .1
 
 pub grant-rest-spec : {M : Type 1} → statement M
 grant-rest-spec =

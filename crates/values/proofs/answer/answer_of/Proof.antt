@@ -1,4 +1,4 @@
--- `bench::answer::answer_of` meets its contract: by the cases of the number; past the table none is left but the last. Assumes nothing.
+-- `values::answer::answer_of` meets its contract: by the cases of the number; past the table none is left but the last. Assumes nothing.
 use mathlib.Core.Path.{sym}
 use native.Mathlib.Omega.{arith}
 use Rattle.values.specs.Numbers.{answerOf}

@@ -1,4 +1,4 @@
--- `engine::answer::number` meets its contract: by the cases of the answer. Assumes nothing.
+-- `values::answer::number` meets its contract: by the cases of the answer. Assumes nothing.
 use borrow.Author.Needs.{needs}
 use Rattle.values.proofs.answer.number.Statement.{statement}
 use Rattle.values.proofs.answer.number.Tie as tie

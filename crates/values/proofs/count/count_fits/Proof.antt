@@ -1,4 +1,4 @@
--- `bench::opening::count_fits` meets its contract. Assumes nothing.
+-- `values::count::count_fits` meets its contract. Assumes nothing.
 use Prim.Native.Nat.{_<_}
 use native.Mathlib.Omega.{arith}
 use borrow.Author.Tests.{lt-ltb}

@@ -3,8 +3,8 @@ use mathlib.Core.Path.{sym, _∙_}
 use borrow.Author.Tests.{eq-eqb, ne-eqb}
 use Rattle.rules.proofs.Book.{exclusive-if}
 use borrow.Author.Needs.{needs}
-use Rattle.lists.proofs.gather.bars.Statement.{statement}
-use Rattle.lists.proofs.gather.bars.Tie as tie
+use Rattle.objects.proofs.bars.Statement.{statement}
+use Rattle.objects.proofs.bars.Tie as tie
 
 returns : tie.Need-returns
 returns c = rw (eq-eqb _ _ (c .if1 .taken))
