@@ -1,7 +1,10 @@
 // Runs a packed sheet and prints each command's answer, the objects, the rings and the counts. What a program prints for a sheet is here alone.
 ghost use mathlib.Core.Path.{_≡_};
 ghost use mathlib.Core.Bool.{true};
-ghost use lib.ListN.{take};
+ghost use Prim.Native.Nat.{_≤_};
+ghost use lib.ListN.{length, take};
+ghost use Rattle.sheet.specs.Kept.{keptOf};
+ghost use Rattle.printed.specs.Lines.{printedSheet};
 use check::same;
 use rules::Ran;
 
@@ -26,14 +29,23 @@ fn same_text(one: &[u8; 65536], one_end: usize, other: &[u8; 65536], other_end: 
     same(start(one, one_end), start(other, other_end))
 }
 
-// Runs the sheet of which the first bytes are given, and the length of the whole, and prints what came of it on standard output. No sheet
-// that is accepted has more than 8,206 bytes, so 8,208 first bytes always do.
-pub fn show(first: &[u8], whole: usize) {
+// Runs the sheet of which the first bytes are given, and the length of the whole: what is printed for it stands at the start of the lent
+// buffer then, so long as the number that is handed back. No sheet that is accepted has more than 8,206 bytes, so 8,208 first bytes
+// always do.
+fn composed(out: &mut [u8; 65536], first: &[u8], whole: usize) -> usize
+    requires { ⌜ length (now out) ≡ 65536 ⌝ }
+    ensures { λ r. ⌜ (take r (now (out .exit)) ≡ printedSheet (take (keptOf whole) (now (first .entry)))) × (r ≤ 65536) ⌝ }
+{
     let n = sheet::kept(whole);
     let mut room = [0u8; 4096];
     let ran = sheet::run(start(first, n), &mut room);
+    lines::report(out, ran, &room)
+}
+
+// Prints that.
+pub fn show(first: &[u8], whole: usize) {
     let mut out = io::large_buffer();
-    let end = lines::report(&mut out, ran, &room);
+    let end = composed(&mut out, first, whole);
     print(&out, end);
 }
 

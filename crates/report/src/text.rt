@@ -1,11 +1,13 @@
 // The printed text, collected in one buffer: each function puts something at a place and hands back the place after it.
 ghost use mathlib.Core.Path.{_≡_};
+ghost use mathlib.Core.List.{[], _∷_};
 ghost use Prim.Native.Nat.{_+_, _<_, _≤_};
 ghost use lib.ListN.{length};
+ghost use Rattle.printed.specs.Text.{decimal, Wrote};
 
 pub fn put(out: &mut [u8; 65536], at: usize, x: u8) -> usize
     requires { ⌜ at < 65536 ⌝ }
-    ensures { λ r. ⌜ r ≡ at + 1 ⌝ }
+    ensures { λ r. ⌜ (Wrote (now (out .entry)) at (x ∷ []) (now (out .exit)) r) × (r ≡ at + 1) ⌝ }
 {
     out[at] = x;
     at + 1
@@ -13,26 +15,27 @@ pub fn put(out: &mut [u8; 65536], at: usize, x: u8) -> usize
 
 pub fn word(out: &mut [u8; 65536], at: usize, letters: &[u8]) -> usize
     requires { ⌜ at + length (now letters) ≤ 65536 ⌝ }
-    ensures { λ r. ⌜ r ≡ at + length (now (letters .entry)) ⌝ }
+    ensures { λ r. ⌜ (Wrote (now (out .entry)) at (now (letters .entry)) (now (out .exit)) r) × (r ≡ at + length (now (letters .entry))) ⌝ }
 {
+    let mut end = at;
     let mut i: usize = 0;
     while i < letters.len() {
-        out[at + i] = letters[i];
+        end = put(out, end, letters[i]);
         i += 1;
     }
-    at + i
+    end
 }
 
 fn digit(out: &mut [u8; 65536], at: usize, d: usize) -> usize
     requires { ⌜ (at < 65536) × (d < 10) ⌝ }
-    ensures { λ r. ⌜ r ≡ at + 1 ⌝ }
+    ensures { λ r. ⌜ (Wrote (now (out .entry)) at ((48 + d) ∷ []) (now (out .exit)) r) × (r ≡ at + 1) ⌝ }
 {
     put(out, at, 48 + d as u8)
 }
 
 fn below_hundred(out: &mut [u8; 65536], at: usize, n: usize) -> usize
     requires { ⌜ (at + 2 ≤ 65536) × (n < 100) ⌝ }
-    ensures { λ r. ⌜ r ≤ at + 2 ⌝ }
+    ensures { λ r. ⌜ (Wrote (now (out .entry)) at (decimal n) (now (out .exit)) r) × (r ≤ at + 2) ⌝ }
 {
     if n < 10 {
         return digit(out, at, n);
@@ -44,7 +47,7 @@ fn below_hundred(out: &mut [u8; 65536], at: usize, n: usize) -> usize
 // The number of a command, a process, an object or an answer, in decimal.
 pub fn number(out: &mut [u8; 65536], at: usize, n: usize) -> usize
     requires { ⌜ (at + 4 ≤ 65536) × (n < 10000) ⌝ }
-    ensures { λ r. ⌜ r ≤ at + 4 ⌝ }
+    ensures { λ r. ⌜ (Wrote (now (out .entry)) at (decimal n) (now (out .exit)) r) × (r ≤ at + 4) ⌝ }
 {
     if n < 100 {
         return below_hundred(out, at, n);

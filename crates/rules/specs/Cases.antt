@@ -1,7 +1,7 @@
 -- The paper's own examples as one table: "Marked (P) are proved, as a single table under one statement."
 -- A row is what the rules make of a board with commands, or of a sheet, beside what the paper says and what follows from it: the
 -- answers, and of the board the books of homes and objects, whom each process waits for, the rings, their tally and the messages in
--- flight. The printed text of the run is tested, not proved.
+-- flight. What is printed for the sheets among them is a table of the crate `printed`.
 use Prim.Native.Nat.{ℕ}
 use mathlib.Core.Path.{_≡_}
 use mathlib.Core.List.{List, [], _∷_, _++_}

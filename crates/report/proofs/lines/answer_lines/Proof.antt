@@ -1,41 +1,33 @@
--- `report::lines::answer_lines` is safe: each line takes at most 10 bytes. Assumes nothing.
+-- `report::lines::answer_lines` meets its contract: each command that is passed has its line. Assumes nothing.
+use mathlib.Core.Path.{refl}
 use Prim.Native.Nat.{_*_, _-_, _≤_}
+use native.Mathlib.Omega.{arith}
+use lib.ListN.{getD}
 use borrow.Author.Needs.{needs}
+use Rattle.printed.specs.Text.{Wrote, flat}
+use Rattle.printed.specs.Lines.{commandLine}
+use Rattle.printed.proofs.Lines.{no-lines, flat-next, commands-whole}
+use Rattle.printed.proofs.Text.{at-most-is, wrote-none, wrote-as, wrote-then}
 use Rattle.report.proofs.lines.answer_lines.Statement.{statement}
 use Rattle.report.proofs.lines.answer_lines.Tie as tie
 
 abbrev Inv-loop : tie.InvT-loop
-Inv-loop out₀ n room end₀ i₀ out end i = (i ≤ 4096) × (end ≤ 10 * i)
+Inv-loop out₀ commands room n end₀ i₀ out end i = (i ≤ n) × (end ≤ 10 * i) × Wrote out₀ 0 (flat i (λ j. commandLine j (getD room j 0))) out end
 
 abbrev μ-loop : tie.MeasureT-loop
-μ-loop out₀ n room end₀ i₀ out end i = 4096 - i
+μ-loop out₀ commands room n end₀ i₀ out end i = n - i
+
+at-most-requires : tie.Need-at-most-requires Inv-loop μ-loop
+at-most-requires c κs = search needs
 
 loop-holds : tie.Need-loop-holds Inv-loop μ-loop
-loop-holds c = search needs
+loop-holds c = (search needs, search needs, wrote-as (no-lines _) wrote-none)
 
-returns : tie.Need-returns Inv-loop μ-loop
-returns c = search needs
+element-copy-out-answer-line : tie.Need-element-copy-out-answer-line Inv-loop μ-loop
+element-copy-out-answer-line c = search needs
 
-add-number : tie.Need-add-number Inv-loop μ-loop
-add-number c = search needs
-
-number-requires : tie.Need-number-requires Inv-loop μ-loop
-number-requires c κs = search needs
-
-put-requires : tie.Need-put-requires Inv-loop μ-loop
-put-requires c κs = search needs
-
-element-copy-out-wide : tie.Need-element-copy-out-wide Inv-loop μ-loop
-element-copy-out-wide c = search needs
-
-wide-requires : tie.Need-wide-requires Inv-loop μ-loop
-wide-requires c κs = search needs
-
-number-requires-2 : tie.Need-number-requires-2 Inv-loop μ-loop
-number-requires-2 c κs = search needs
-
-put-requires-2 : tie.Need-put-requires-2 Inv-loop μ-loop
-put-requires-2 c κs = search needs
+answer-line-requires : tie.Need-answer-line-requires Inv-loop μ-loop
+answer-line-requires c κs = search needs
 
 add-i : tie.Need-add-i Inv-loop μ-loop
 add-i c = search needs
@@ -44,10 +36,10 @@ loop-less : tie.Need-loop-less Inv-loop μ-loop
 loop-less c = search needs
 
 loop-again : tie.Need-loop-again Inv-loop μ-loop
-loop-again c = search needs
+loop-again c = (search needs, search needs, wrote-as (flat-next _ _) (wrote-then (c .before .before .before .before .loop .inv .2) (c .answer-line .ensures .0)))
 
-returns-2 : tie.Need-returns-2 Inv-loop μ-loop
-returns-2 c = search needs
+returns : tie.Need-returns Inv-loop μ-loop
+returns c = (wrote-as (commands-whole (c .before .before .before .args .commands) (c .before .before .before .args .room .now) (at-most-is 4096 (omega arith) (c .before .before .at-most .ensures .0) refl)) (c .before .loop .inv .2), search needs)
 
 pub answer-lines-spec : {M : Type 1} → statement M
 answer-lines-spec =
@@ -55,16 +47,11 @@ answer-lines-spec =
     (tie.spec
     Inv-loop
     μ-loop
+    at-most-requires
     loop-holds
-    returns
-    add-number
-    number-requires
-    put-requires
-    element-copy-out-wide
-    wide-requires
-    number-requires-2
-    put-requires-2
+    element-copy-out-answer-line
+    answer-line-requires
     add-i
     loop-less
     loop-again
-    returns-2)
+    returns)

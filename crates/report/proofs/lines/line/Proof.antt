@@ -1,17 +1,30 @@
--- `report::lines::line` is safe: each place takes at most 6 bytes. Assumes nothing.
+-- `report::lines::line` meets its contract: each place that is passed has its entry. Assumes nothing.
 use Prim.Native.Nat.{_+_, _*_, _-_, _≤_}
+use native.Mathlib.Omega.{arith}
 use borrow.Author.Needs.{needs}
+use Rattle.printed.specs.Text.{Wrote, afterSpaces}
+use Rattle.rules.specs.Tables.{rows}
+use Rattle.printed.specs.Lines.{entry}
+use Rattle.rules.specs.Book.{whoAt, modeAt}
+use Rattle.printed.proofs.Lines.{no-rows, rows-next, line-whole}
+use Rattle.printed.proofs.Text.{at-most-is, wrote-none, wrote-as, wrote-then}
 use Rattle.report.proofs.lines.line.Statement.{statement}
 use Rattle.report.proofs.lines.line.Tie as tie
 
 abbrev Inv-loop : tie.InvT-loop
-Inv-loop out₀ at o end₀ k₀ out end k = (k ≤ 16) × (end ≤ at + 6 * k)
+Inv-loop out₀ at o n end₀ k₀ out end k = (k ≤ n) × (end ≤ at + 6 * k) × Wrote out₀ at (afterSpaces (rows k (λ j. entry (whoAt o j) (modeAt o j)))) out end
 
 abbrev μ-loop : tie.MeasureT-loop
-μ-loop out₀ at o end₀ k₀ out end k = 16 - k
+μ-loop out₀ at o n end₀ k₀ out end k = n - k
+
+wide-requires : tie.Need-wide-requires Inv-loop μ-loop
+wide-requires c κs = search needs
+
+at-most-requires : tie.Need-at-most-requires Inv-loop μ-loop
+at-most-requires c κs = search needs
 
 loop-holds : tie.Need-loop-holds Inv-loop μ-loop
-loop-holds c = search needs
+loop-holds c = (search needs, search needs, wrote-as (no-rows _) wrote-none)
 
 waiter-requires : tie.Need-waiter-requires Inv-loop μ-loop
 waiter-requires c κs = search needs
@@ -23,12 +36,22 @@ loop-less : tie.Need-loop-less Inv-loop μ-loop
 loop-less c = search needs
 
 loop-again : tie.Need-loop-again Inv-loop μ-loop
-loop-again c = search needs
+loop-again c = (search needs, search needs, wrote-as (rows-next _ _) (wrote-then (c .before .before .before .loop .inv .2) (c .waiter .ensures .0)))
 
 returns : tie.Need-returns Inv-loop μ-loop
-returns c = search needs
+returns c = (wrote-as (line-whole (c .before .before .before .before .args .o) (at-most-is 16 (omega arith) (c .before .before .at-most .ensures .0) (c .before .before .before .wide .ensures .0))) (c .before .loop .inv .2), search needs)
 
 pub line-spec : {M : Type 1} → statement M
 line-spec =
     tie.close
-    (tie.spec Inv-loop μ-loop loop-holds waiter-requires add-k loop-less loop-again returns)
+    (tie.spec
+    Inv-loop
+    μ-loop
+    wide-requires
+    at-most-requires
+    loop-holds
+    waiter-requires
+    add-k
+    loop-less
+    loop-again
+    returns)

@@ -1,23 +1,35 @@
--- `report::lines::object_lines` is safe: each line takes at most 200 bytes. Assumes nothing.
+-- `report::lines::object_lines` meets its contract: each object that is passed has its line. Assumes nothing.
+use mathlib.Core.Path.{_≡_, ap}
+use lib.ListN.{length}
 use Prim.Native.Nat.{_+_, _*_, _-_, _≤_}
+use native.Mathlib.Omega.{arith}
 use borrow.Author.Needs.{needs}
+use Rattle.printed.specs.Text.{Wrote, flat}
+use Rattle.printed.specs.Lines.{objectLine}
+use Rattle.rules.specs.Board.{objectAt}
+use Rattle.printed.proofs.Lines.{no-lines, flat-next, objects-whole}
+use Rattle.printed.proofs.Text.{at-most-is, wrote-none, wrote-as, wrote-then}
+use Rattle.counts.proofs.Sums.{read-at, length-mapped}
 use Rattle.report.proofs.lines.object_lines.Statement.{statement}
 use Rattle.report.proofs.lines.object_lines.Tie as tie
 
 abbrev Inv-loop : tie.InvT-loop
-Inv-loop out₀ at b n end₀ i₀ out end i = (i ≤ 16) × (end ≤ at + 200 * i)
+Inv-loop out₀ at b n end₀ i₀ out end i = (i ≤ n) × (end ≤ at + 200 * i) × Wrote out₀ at (flat i (λ j. objectLine j (objectAt b j))) out end
 
 abbrev μ-loop : tie.MeasureT-loop
-μ-loop out₀ at b n end₀ i₀ out end i = 16 - i
+μ-loop out₀ at b n end₀ i₀ out end i = n - i
+
+sizes : (c : tie.Start Inv-loop μ-loop) → length (c .args .t3 .objects) ≡ 16
+sizes c = search (needs, length-mapped)
 
 wide-requires : tie.Need-wide-requires Inv-loop μ-loop
 wide-requires c κs = search needs
 
-loop-holds : tie.Need-loop-holds Inv-loop μ-loop
-loop-holds c = search needs
+at-most-requires : tie.Need-at-most-requires Inv-loop μ-loop
+at-most-requires c κs = search needs
 
-returns : tie.Need-returns Inv-loop μ-loop
-returns c = search needs
+loop-holds : tie.Need-loop-holds Inv-loop μ-loop
+loop-holds c = (search needs, search needs, wrote-as (no-lines _) wrote-none)
 
 mul-object-line : tie.Need-mul-object-line Inv-loop μ-loop
 mul-object-line c = search needs
@@ -35,10 +47,10 @@ loop-less : tie.Need-loop-less Inv-loop μ-loop
 loop-less c = search needs
 
 loop-again : tie.Need-loop-again Inv-loop μ-loop
-loop-again c = search needs
+loop-again c = (search needs, search needs, wrote-as (flat-next _ _) (wrote-then (c .before .before .before .before .loop .inv .2) (wrote-as (ap (objectLine (c .before .before .before .before .loop .i)) (read-at (c .before .before .before .before .before .before .before .args .t3 .objects) (c .before .before .before .before .loop .i) _ _ (omega (arith, sizes (c .before .before .before .before .before .before .before))))) (c .object-line .ensures .0))))
 
-returns-2 : tie.Need-returns-2 Inv-loop μ-loop
-returns-2 c = search needs
+returns : tie.Need-returns Inv-loop μ-loop
+returns c = (wrote-as (objects-whole (c .before .before .before .before .args .t3) (at-most-is 16 (omega arith) (c .before .before .at-most .ensures .0) (c .before .before .before .wide .ensures .0))) (c .before .loop .inv .2), search needs)
 
 pub object-lines-spec : {M : Type 1} → statement M
 object-lines-spec =
@@ -47,12 +59,12 @@ object-lines-spec =
     Inv-loop
     μ-loop
     wide-requires
+    at-most-requires
     loop-holds
-    returns
     mul-object-line
     element-copy-out-object-line
     object-line-requires
     add-i
     loop-less
     loop-again
-    returns-2)
+    returns)

@@ -1,27 +1,28 @@
--- `report::text::word` is safe, and hands back the place after the word. Assumes nothing.
-use Prim.Native.Nat.{_-_, _≤_}
-use lib.ListN.{length}
+-- `report::text::word` meets its contract: the letters that are passed stand there. Assumes nothing.
+use mathlib.Core.Path.{_≡_, sym}
+use lib.Seq.{take-all}
+use Prim.Native.Nat.{_+_, _-_, _≤_}
+use lib.ListN.{length, take}
 use borrow.Author.Needs.{needs}
+use Rattle.printed.proofs.Text.{take-next, wrote-none, wrote-as, wrote-then}
+use Rattle.printed.specs.Text.{Wrote}
 use Rattle.report.proofs.text.word.Statement.{statement}
 use Rattle.report.proofs.text.word.Tie as tie
 
 abbrev Inv-loop : tie.InvT-loop
-Inv-loop out₀ at letters i₀ out i = i ≤ length letters
+Inv-loop out₀ at letters end₀ i₀ out end i = (i ≤ length letters) × (end ≡ at + i) × Wrote out₀ at (take i letters) out end
 
 abbrev μ-loop : tie.MeasureT-loop
-μ-loop out₀ at letters i₀ out i = length letters - i
+μ-loop out₀ at letters end₀ i₀ out end i = length letters - i
 
 loop-holds : tie.Need-loop-holds Inv-loop μ-loop
-loop-holds c = search needs
+loop-holds c = (search needs, search needs, wrote-none)
 
-shared-slice-read-out : tie.Need-shared-slice-read-out Inv-loop μ-loop
-shared-slice-read-out c = search needs
+shared-slice-read-put : tie.Need-shared-slice-read-put Inv-loop μ-loop
+shared-slice-read-put c = search needs
 
-add-out : tie.Need-add-out Inv-loop μ-loop
-add-out c = search needs
-
-element-write-out : tie.Need-element-write-out Inv-loop μ-loop
-element-write-out c = search needs
+put-requires : tie.Need-put-requires Inv-loop μ-loop
+put-requires c κs = search needs
 
 add-i : tie.Need-add-i Inv-loop μ-loop
 add-i c = search needs
@@ -30,13 +31,10 @@ loop-less : tie.Need-loop-less Inv-loop μ-loop
 loop-less c = search needs
 
 loop-again : tie.Need-loop-again Inv-loop μ-loop
-loop-again c = search needs
-
-add-result : tie.Need-add-result Inv-loop μ-loop
-add-result c = search needs
+loop-again c = (search needs, search needs, wrote-as (sym (take-next (c .before .before .before .before .before .before .args .letters .now) (c .before .before .before .before .loop .i) (search needs))) (wrote-then (c .before .before .before .before .loop .inv .2) (c .put .ensures .0)))
 
 returns : tie.Need-returns Inv-loop μ-loop
-returns c = search needs
+returns c = (wrote-as (take-all (c .before .loop .i) (c .before .before .before .args .letters .now) (search needs)) (c .before .loop .inv .2), search needs)
 
 pub word-spec : {M : Type 1} → statement M
 word-spec =
@@ -45,11 +43,9 @@ word-spec =
     Inv-loop
     μ-loop
     loop-holds
-    shared-slice-read-out
-    add-out
-    element-write-out
+    shared-slice-read-put
+    put-requires
     add-i
     loop-less
     loop-again
-    add-result
     returns)

@@ -1,0 +1,4 @@
+-- Laws of the printed text, and the run in full.
+pub mod Text
+pub mod Lines
+pub mod Full
