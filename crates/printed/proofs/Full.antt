@@ -9,7 +9,7 @@ use Rattle.rules.specs.Board.{putFirst, send, sendGrants, load, tally}
 use Rattle.rules.specs.Commands.{recording, requested, released, delivered, effect, answerTo, turn, draining, homesOf, opening}
 use Rattle.rules.specs.Shape.{holdsFit, rowFits, different, countsFit, processFits, objectFits, listFits, noList, messageFits, ringFits, standing, inShape, step, drain}
 use Rattle.rules.specs.Sheet.{field, homesFrom, commandAt, commandSpare, boardAfter, roomAfter, readerAnswer, commandsPart, sheetAnswer, runSheet}
-use Rattle.printed.specs.Text.{digits, decimal, afterSpaces, spaced, lineOf, flat, atMost}
+use Rattle.text.specs.Text.{digits, decimal, afterSpaces, spaced, lineOf, flat, atMost}
 use Rattle.printed.specs.Lines.{entry, holderEntries, lineEntries, objectLine, objectLines, ringEntries, ringLine, ringLines, lastLine, commandLine, commandLines, refusedLine, printed, printedSheet}
 use Rattle.printed.specs.Full.{TextsHold, texts}
 

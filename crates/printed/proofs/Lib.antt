@@ -1,4 +1,3 @@
--- Laws of the printed text, and the run in full.
-pub mod Text
+-- Laws of the lines, and the run in full.
 pub mod Lines
 pub mod Full

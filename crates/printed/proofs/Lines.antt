@@ -20,9 +20,9 @@ use Rattle.rules.specs.Tables.{pick, rows, countOf}
 use Rattle.rules.specs.Bits.{taken}
 use Rattle.rules.specs.Book.{holdIn, holderAt, whoAt, modeAt}
 use Rattle.rules.specs.Board.{objectAt, ringAt, inFlight, tally}
-use Rattle.printed.specs.Text.{decimal, afterSpaces, spaced, lineOf, flat, atMost}
+use Rattle.text.specs.Text.{decimal, afterSpaces, spaced, lineOf, flat, atMost}
 use Rattle.printed.specs.Lines.{letter, entry, entryIf, holderEntries, lineEntries, objectLine, objectLines, ringEntries, ringLine, ringLines, lastLine, commandLine, commandLines, refusedLine, printed, printedSheet, wordRing, wordMessages, wordRings, wordSheet}
-use Rattle.printed.proofs.Text.{spaces-append, spaces-one}
+use Rattle.text.proofs.Text.{spaces-append, spaces-one}
 
 -- ---- one more
 pub flat-next : (f : ℕ → List ℕ) (k : ℕ) → flat k f ++ f k ≡ flat (k + 1) f

@@ -1,4 +1,3 @@
--- The printed text as definitions: bytes put one after another, then the lines of document 01.
-pub mod Text
+-- What is printed for a sheet, as definitions: the lines of document 01, and its run in full.
 pub mod Lines
 pub mod Full

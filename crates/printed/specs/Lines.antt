@@ -16,7 +16,7 @@ use Rattle.rules.specs.Answers.{number, done}
 use Rattle.rules.specs.Book.{holderAt, whoAt, modeAt}
 use Rattle.rules.specs.Board.{objectAt, ringAt, inFlight, tally}
 use Rattle.rules.specs.Sheet.{runSheet}
-use Rattle.printed.specs.Text.{decimal, lineOf, flat, atMost}
+use Rattle.text.specs.Text.{decimal, lineOf, flat, atMost}
 
 -- ---- object lines
 -- "with S or X"

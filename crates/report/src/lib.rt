@@ -9,7 +9,6 @@ use check::same;
 use rules::Ran;
 
 mod lines;
-mod text;
 
 // The first n bytes.
 fn start(s: &[u8], n: usize) -> &[u8]

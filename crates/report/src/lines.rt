@@ -6,27 +6,18 @@ ghost use lib.ListN.{getD};
 ghost use Rattle.rules.specs.Tables.{countOf};
 ghost use Rattle.rules.specs.Bits.{taken};
 ghost use Rattle.rules.specs.Book.{modeIf, modeAt, whoAt, holderAt};
-ghost use Rattle.printed.specs.Text.{afterSpaces, atMost, decimal, Wrote};
+ghost use Rattle.text.specs.Text.{afterSpaces, atMost, decimal, Wrote};
 ghost use Rattle.printed.specs.Lines as Printed;
-use crate::text::number;
-use crate::text::put;
-use crate::text::word;
 use rules::Board;
 use rules::Object;
 use rules::Ran;
 use rules::Ring;
+use text::at_most;
+use text::number;
+use text::put;
+use text::word;
 use values::bits::has;
 use values::bits::wide;
-
-// A count that is above its limit counts as the limit.
-fn at_most(top: usize, n: usize) -> usize
-    ensures { λ r. ⌜ (r ≡ atMost top n) × (r ≤ top) ⌝ }
-{
-    if n < top {
-        return n;
-    }
-    top
-}
 
 fn letter(exclusive: bool) -> u8
     ensures { λ r. ⌜ r ≡ Printed.letter (modeIf exclusive) ⌝ }

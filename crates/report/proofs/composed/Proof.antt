@@ -5,7 +5,7 @@ use native.Mathlib.Omega.{arith}
 use lib.ListN.{length, take}
 use borrow.Author.Needs.{needs}
 use Rattle.sheet.specs.Kept.{keptOf}
-use Rattle.printed.proofs.Text.{wrote-start}
+use Rattle.text.proofs.Text.{wrote-start}
 use Rattle.printed.proofs.Lines.{sheet-printed}
 use Rattle.report.proofs.composed.Statement.{statement}
 use Rattle.report.proofs.composed.Tie as tie

@@ -1,7 +1,7 @@
 -- `report::lines::answer_line` meets its contract. Assumes nothing.
 use borrow.Author.Needs.{needs}
 use Rattle.printed.proofs.Lines.{command-parts}
-use Rattle.printed.proofs.Text.{wrote-as, wrote-then}
+use Rattle.text.proofs.Text.{wrote-as, wrote-then}
 use Rattle.report.proofs.lines.answer_line.Statement.{statement}
 use Rattle.report.proofs.lines.answer_line.Tie as tie
 

@@ -4,10 +4,10 @@ use Prim.Native.Nat.{_*_, _-_, _≤_}
 use native.Mathlib.Omega.{arith}
 use lib.ListN.{getD}
 use borrow.Author.Needs.{needs}
-use Rattle.printed.specs.Text.{Wrote, flat}
+use Rattle.text.specs.Text.{Wrote, flat}
 use Rattle.printed.specs.Lines.{commandLine}
 use Rattle.printed.proofs.Lines.{no-lines, flat-next, commands-whole}
-use Rattle.printed.proofs.Text.{at-most-is, wrote-none, wrote-as, wrote-then}
+use Rattle.text.proofs.Text.{at-most-is, wrote-none, wrote-as, wrote-then}
 use Rattle.report.proofs.lines.answer_lines.Statement.{statement}
 use Rattle.report.proofs.lines.answer_lines.Tie as tie
 

@@ -1,7 +1,7 @@
 -- `report::lines::entry` meets its contract: a space, the number and the letter, one after another. Assumes nothing.
 use borrow.Author.Needs.{needs}
 use Rattle.printed.proofs.Lines.{entry-parts}
-use Rattle.printed.proofs.Text.{wrote-as, wrote-then}
+use Rattle.text.proofs.Text.{wrote-as, wrote-then}
 use Rattle.report.proofs.lines.entry.Statement.{statement}
 use Rattle.report.proofs.lines.entry.Tie as tie
 

@@ -2,7 +2,7 @@
 use mathlib.Core.Path.{sym, _∙_}
 use borrow.Author.Needs.{needs}
 use Rattle.printed.proofs.Lines.{held-exclusive, held-shared, held-not}
-use Rattle.printed.proofs.Text.{wrote-as, wrote-none}
+use Rattle.text.proofs.Text.{wrote-as, wrote-none}
 use Rattle.report.proofs.lines.holder.Statement.{statement}
 use Rattle.report.proofs.lines.holder.Tie as tie
 

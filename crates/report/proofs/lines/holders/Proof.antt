@@ -2,11 +2,11 @@
 use Prim.Native.Nat.{_+_, _*_, _-_, _≤_}
 use native.Mathlib.Omega.{arith}
 use borrow.Author.Needs.{needs}
-use Rattle.printed.specs.Text.{Wrote, afterSpaces, flat}
+use Rattle.text.specs.Text.{Wrote, afterSpaces, flat}
 use Rattle.printed.specs.Lines.{entryIf}
 use Rattle.rules.specs.Book.{holderAt}
 use Rattle.printed.proofs.Lines.{no-side, side-next, holders-whole}
-use Rattle.printed.proofs.Text.{wrote-none, wrote-as, wrote-then}
+use Rattle.text.proofs.Text.{wrote-none, wrote-as, wrote-then}
 use Rattle.report.proofs.lines.holders.Statement.{statement}
 use Rattle.report.proofs.lines.holders.Tie as tie
 

@@ -2,12 +2,12 @@
 use Prim.Native.Nat.{_+_, _*_, _-_, _≤_}
 use native.Mathlib.Omega.{arith}
 use borrow.Author.Needs.{needs}
-use Rattle.printed.specs.Text.{Wrote, afterSpaces}
+use Rattle.text.specs.Text.{Wrote, afterSpaces}
 use Rattle.rules.specs.Tables.{rows}
 use Rattle.printed.specs.Lines.{entry}
 use Rattle.rules.specs.Book.{whoAt, modeAt}
 use Rattle.printed.proofs.Lines.{no-rows, rows-next, line-whole}
-use Rattle.printed.proofs.Text.{at-most-is, wrote-none, wrote-as, wrote-then}
+use Rattle.text.proofs.Text.{at-most-is, wrote-none, wrote-as, wrote-then}
 use Rattle.report.proofs.lines.line.Statement.{statement}
 use Rattle.report.proofs.lines.line.Tie as tie
 

@@ -1,7 +1,7 @@
 -- `report::lines::member` meets its contract: a space and the number. Assumes nothing.
 use borrow.Author.Needs.{needs}
 use Rattle.printed.proofs.Lines.{member-parts}
-use Rattle.printed.proofs.Text.{wrote-as, wrote-then}
+use Rattle.text.proofs.Text.{wrote-as, wrote-then}
 use Rattle.report.proofs.lines.member.Statement.{statement}
 use Rattle.report.proofs.lines.member.Tie as tie
 

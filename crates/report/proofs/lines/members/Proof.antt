@@ -3,10 +3,10 @@ use Prim.Native.Nat.{_+_, _*_, _-_, _≤_}
 use native.Mathlib.Omega.{arith}
 use lib.ListN.{getD}
 use borrow.Author.Needs.{needs}
-use Rattle.printed.specs.Text.{Wrote, afterSpaces, decimal}
+use Rattle.text.specs.Text.{Wrote, afterSpaces, decimal}
 use Rattle.rules.specs.Tables.{rows}
 use Rattle.printed.proofs.Lines.{no-rows, rows-next, members-whole}
-use Rattle.printed.proofs.Text.{at-most-is, wrote-none, wrote-as, wrote-then}
+use Rattle.text.proofs.Text.{at-most-is, wrote-none, wrote-as, wrote-then}
 use Rattle.report.proofs.lines.members.Statement.{statement}
 use Rattle.report.proofs.lines.members.Tie as tie
 

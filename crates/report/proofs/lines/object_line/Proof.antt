@@ -1,7 +1,7 @@
 -- `report::lines::object_line` meets its contract: its parts one after another. Assumes nothing.
 use borrow.Author.Needs.{needs}
 use Rattle.printed.proofs.Lines.{object-parts}
-use Rattle.printed.proofs.Text.{wrote-as, wrote-then}
+use Rattle.text.proofs.Text.{wrote-as, wrote-then}
 use Rattle.report.proofs.lines.object_line.Statement.{statement}
 use Rattle.report.proofs.lines.object_line.Tie as tie
 

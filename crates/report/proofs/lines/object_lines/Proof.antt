@@ -4,11 +4,11 @@ use lib.ListN.{length}
 use Prim.Native.Nat.{_+_, _*_, _-_, _≤_}
 use native.Mathlib.Omega.{arith}
 use borrow.Author.Needs.{needs}
-use Rattle.printed.specs.Text.{Wrote, flat}
+use Rattle.text.specs.Text.{Wrote, flat}
 use Rattle.printed.specs.Lines.{objectLine}
 use Rattle.rules.specs.Board.{objectAt}
 use Rattle.printed.proofs.Lines.{no-lines, flat-next, objects-whole}
-use Rattle.printed.proofs.Text.{at-most-is, wrote-none, wrote-as, wrote-then}
+use Rattle.text.proofs.Text.{at-most-is, wrote-none, wrote-as, wrote-then}
 use Rattle.counts.proofs.Sums.{read-at, length-mapped}
 use Rattle.report.proofs.lines.object_lines.Statement.{statement}
 use Rattle.report.proofs.lines.object_lines.Tie as tie

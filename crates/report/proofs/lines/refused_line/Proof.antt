@@ -1,7 +1,7 @@
 -- `report::lines::refused_line` meets its contract. Assumes nothing.
 use borrow.Author.Needs.{needs}
 use Rattle.printed.proofs.Lines.{refused-parts}
-use Rattle.printed.proofs.Text.{wrote-as, wrote-then}
+use Rattle.text.proofs.Text.{wrote-as, wrote-then}
 use Rattle.report.proofs.lines.refused_line.Statement.{statement}
 use Rattle.report.proofs.lines.refused_line.Tie as tie
 

@@ -2,7 +2,7 @@
 use mathlib.Core.Path.{sym, _∙_}
 use borrow.Author.Needs.{needs}
 use Rattle.printed.proofs.Lines.{printed-done, printed-refused}
-use Rattle.printed.proofs.Text.{wrote-as, wrote-then}
+use Rattle.text.proofs.Text.{wrote-as, wrote-then}
 use Rattle.report.proofs.lines.report.Statement.{statement}
 use Rattle.report.proofs.lines.report.Tie as tie
 

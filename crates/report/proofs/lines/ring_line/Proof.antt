@@ -2,7 +2,7 @@
 use borrow.Author.Tests.{eq-eqb, ne-eqb}
 use borrow.Author.Needs.{needs}
 use Rattle.printed.proofs.Lines.{ring-parts, ring-none}
-use Rattle.printed.proofs.Text.{wrote-none, wrote-as, wrote-then}
+use Rattle.text.proofs.Text.{wrote-none, wrote-as, wrote-then}
 use Rattle.report.proofs.lines.ring_line.Statement.{statement}
 use Rattle.report.proofs.lines.ring_line.Tie as tie
 

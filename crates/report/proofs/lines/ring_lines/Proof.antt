@@ -3,12 +3,12 @@ use mathlib.Core.Path.{ap}
 use Prim.Native.Nat.{_+_, _*_, _-_, _≤_}
 use native.Mathlib.Omega.{arith}
 use borrow.Author.Needs.{needs}
-use Rattle.printed.specs.Text.{Wrote, flat}
+use Rattle.text.specs.Text.{Wrote, flat}
 use Rattle.printed.specs.Lines.{ringLine}
 use Rattle.rules.specs.Board.{ringAt}
 use Rattle.printed.proofs.Lines.{no-lines, flat-next, rings-whole}
 use Rattle.counts.proofs.Sums.{read-at, length-mapped}
-use Rattle.printed.proofs.Text.{wrote-none, wrote-as, wrote-then}
+use Rattle.text.proofs.Text.{wrote-none, wrote-as, wrote-then}
 use Rattle.report.proofs.lines.ring_lines.Statement.{statement}
 use Rattle.report.proofs.lines.ring_lines.Tie as tie
 

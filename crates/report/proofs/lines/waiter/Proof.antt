@@ -3,8 +3,8 @@ use mathlib.Core.Path.{ap}
 use mathlib.Core.Bool.{Bool}
 use mathlib.Core.List.{_∷_, []}
 use borrow.Author.Needs.{needs}
-use Rattle.printed.proofs.Text.{wrote-as}
-use Rattle.printed.specs.Text.{afterSpaces}
+use Rattle.text.proofs.Text.{wrote-as}
+use Rattle.text.specs.Text.{afterSpaces}
 use Rattle.printed.specs.Lines.{entry}
 use Rattle.rules.specs.Book.{whoAt, modeIf}
 use Rattle.report.proofs.lines.waiter.Statement.{statement}

@@ -1,9 +1,9 @@
--- `report::text::below_hundred` meets its contract: one digit, or two. Assumes nothing.
+-- `text::below_hundred` meets its contract: one digit, or two. Assumes nothing.
 use mathlib.Core.Path.{sym}
 use borrow.Author.Needs.{needs}
-use Rattle.printed.proofs.Text.{decimal-one, decimal-two, wrote-as, wrote-then}
-use Rattle.report.proofs.text.below_hundred.Statement.{statement}
-use Rattle.report.proofs.text.below_hundred.Tie as tie
+use Rattle.text.proofs.Text.{decimal-one, decimal-two, wrote-as, wrote-then}
+use Rattle.text.proofs.below_hundred.Statement.{statement}
+use Rattle.text.proofs.below_hundred.Tie as tie
 
 digit-requires : tie.Need-digit-requires
 digit-requires c κs = search needs

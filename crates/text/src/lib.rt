@@ -1,9 +1,10 @@
-// The printed text, collected in one buffer: each function puts something at a place and hands back the place after it.
+// Text, put piece by piece into one lent buffer: each function puts something at a place and hands back the place after it. A byte, a word, a
+// number: what a program prints is built of these, and each is an equation with its definition in specs/.
 ghost use mathlib.Core.Path.{_≡_};
 ghost use mathlib.Core.List.{[], _∷_};
 ghost use Prim.Native.Nat.{_+_, _<_, _≤_};
 ghost use lib.ListN.{length};
-ghost use Rattle.printed.specs.Text.{decimal, Wrote};
+ghost use Rattle.text.specs.Text.{decimal, atMost, Wrote};
 
 pub fn put(out: &mut [u8; 65536], at: usize, x: u8) -> usize
     requires { ⌜ at < 65536 ⌝ }
@@ -55,4 +56,14 @@ pub fn number(out: &mut [u8; 65536], at: usize, n: usize) -> usize
     let hundreds = below_hundred(out, at, n / 100);
     let tens = digit(out, hundreds, n / 10 % 10);
     digit(out, tens, n % 10)
+}
+
+// A count that is above its limit counts as the limit.
+pub fn at_most(top: usize, n: usize) -> usize
+    ensures { λ r. ⌜ (r ≡ atMost top n) × (r ≤ top) ⌝ }
+{
+    if n < top {
+        return n;
+    }
+    top
 }

@@ -1,9 +1,9 @@
--- `report::text::put` meets its contract: one byte is put. Assumes nothing.
+-- `text::put` meets its contract: one byte is put. Assumes nothing.
 use mathlib.Core.Path.{refl}
 use borrow.Author.Needs.{needs}
-use Rattle.printed.proofs.Text.{wrote-one}
-use Rattle.report.proofs.text.put.Statement.{statement}
-use Rattle.report.proofs.text.put.Tie as tie
+use Rattle.text.proofs.Text.{wrote-one}
+use Rattle.text.proofs.put.Statement.{statement}
+use Rattle.text.proofs.put.Tie as tie
 
 element-write-out : tie.Need-element-write-out
 element-write-out c = search needs

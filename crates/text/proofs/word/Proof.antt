@@ -1,13 +1,13 @@
--- `report::text::word` meets its contract: the letters that are passed stand there. Assumes nothing.
+-- `text::word` meets its contract: the letters that are passed stand there. Assumes nothing.
 use mathlib.Core.Path.{_≡_, sym}
 use lib.Seq.{take-all}
 use Prim.Native.Nat.{_+_, _-_, _≤_}
 use lib.ListN.{length, take}
 use borrow.Author.Needs.{needs}
-use Rattle.printed.proofs.Text.{take-next, wrote-none, wrote-as, wrote-then}
-use Rattle.printed.specs.Text.{Wrote}
-use Rattle.report.proofs.text.word.Statement.{statement}
-use Rattle.report.proofs.text.word.Tie as tie
+use Rattle.text.proofs.Text.{take-next, wrote-none, wrote-as, wrote-then}
+use Rattle.text.specs.Text.{Wrote}
+use Rattle.text.proofs.word.Statement.{statement}
+use Rattle.text.proofs.word.Tie as tie
 
 abbrev Inv-loop : tie.InvT-loop
 Inv-loop out₀ at letters end₀ i₀ out end i = (i ≤ length letters) × (end ≡ at + i) × Wrote out₀ at (take i letters) out end

@@ -11,7 +11,7 @@ use lib.Seq.{sets, sets-eq, take-append-seam, take-suc}
 use borrow.Author.Tests.{ltb-true, ltb-false, lt-ltb, le-ltb}
 use Rattle.rules.specs.Tables.{rows}
 use Rattle.rules.proofs.Tables.{by-test}
-use Rattle.printed.specs.Text.{digits, decimal, readOn, afterSpaces, spaced, lineOf, flat, atMost, written, Wrote}
+use Rattle.text.specs.Text.{digits, decimal, readOn, afterSpaces, spaced, lineOf, flat, atMost, written, Wrote}
 
 -- ---- a number in decimal
 digits-one : (d n : ℕ) → n < 10 → digits (suc d) n ≡ (48 + n) ∷ []

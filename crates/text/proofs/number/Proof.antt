@@ -1,8 +1,8 @@
--- `report::text::number` meets its contract: the last two digits one after the other behind the rest. Assumes nothing.
+-- `text::number` meets its contract: the last two digits one after the other behind the rest. Assumes nothing.
 use borrow.Author.Needs.{needs}
-use Rattle.printed.proofs.Text.{decimal-four, wrote-as, wrote-then}
-use Rattle.report.proofs.text.number.Statement.{statement}
-use Rattle.report.proofs.text.number.Tie as tie
+use Rattle.text.proofs.Text.{decimal-four, wrote-as, wrote-then}
+use Rattle.text.proofs.number.Statement.{statement}
+use Rattle.text.proofs.number.Tie as tie
 
 below-hundred-requires : tie.Need-below-hundred-requires
 below-hundred-requires c κs = search needs

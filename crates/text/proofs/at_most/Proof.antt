@@ -1,8 +1,8 @@
--- `report::lines::at_most` meets its contract. Assumes nothing.
+-- `text::at_most` meets its contract. Assumes nothing.
 use borrow.Author.Needs.{needs}
-use Rattle.printed.proofs.Text.{at-most-below, at-most-top}
-use Rattle.report.proofs.lines.at_most.Statement.{statement}
-use Rattle.report.proofs.lines.at_most.Tie as tie
+use Rattle.text.proofs.Text.{at-most-below, at-most-top}
+use Rattle.text.proofs.at_most.Statement.{statement}
+use Rattle.text.proofs.at_most.Tie as tie
 
 returns : tie.Need-returns
 returns c = (at-most-below _ _ (c .if1 .taken), search needs)
