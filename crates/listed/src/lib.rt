@@ -8,7 +8,6 @@ pub enum Way {
     InTurns,
 }
 
-// A file of more than 65,536 bytes would be cut there; no sheet here is that long.
 fn sheet(name: &[u8], way: Way) {
     io::write_all(libc::STDOUT_FILENO, b"== ");
     io::write_all(libc::STDOUT_FILENO, name);
@@ -19,11 +18,11 @@ fn sheet(name: &[u8], way: Way) {
         return;
     }
     let mut bytes = io::large_buffer();
-    let n = io::read_full(fd, &mut bytes);
+    let whole = input::whole(fd, &mut bytes);
     libc::close(fd);
     match way {
-        Way::AtOnce => report::show(&bytes[..n], n),
-        Way::InTurns => turns::show(&bytes[..n]),
+        Way::AtOnce => report::show(&bytes, whole),
+        Way::InTurns => turns::show(text::start(&bytes, sheet::kept(whole))),
     }
 }
 

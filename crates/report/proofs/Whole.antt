@@ -1,5 +1,5 @@
--- What is composed from the first bytes of an input and its length is the printed text of the whole input. Assumes nothing.
-use mathlib.Core.Path.{_≡_, ap, _∙_}
+-- What is kept of an input runs as the whole does, so it prints the same. Assumes nothing.
+use mathlib.Core.Path.{_≡_, sym, ap, _∙_}
 use mathlib.Core.List.{List}
 use Prim.Native.Nat.{ℕ, _≤_, _-_, _%_}
 use native.Mathlib.Omega.{arith}
@@ -13,16 +13,22 @@ use Rattle.rules.specs.Sheet.{Run}
 use Rattle.sheet.specs.Kept.{keptOf}
 use Rattle.sheet.proofs.Longer.{kept-runs}
 use Rattle.printed.specs.Lines.{printed, printedSheet}
+use Rattle.input.specs.Input.{Taken}
+use Rattle.report.specs.Whole.{WholePrinted}
 
-kept-small : (n : ℕ) → keptOf n ≤ 8208
-kept-small n = elim (decLt n 8207) [
-  | yes h ↦ rw (lt-ltb n 8207 h) (omega arith)
-  | no f ↦ rw (le-ltb n 8207 (omega (arith, f))) (omega arith)
+-- no more is kept than there is, and never more than the buffer holds
+kept-below : (n : ℕ) → (keptOf n ≤ n) × (keptOf n ≤ 65536)
+kept-below n = elim (decLt n 8207) [
+  | yes h ↦ rw (lt-ltb n 8207 h) (omega arith, omega arith)
+  | no f ↦ rw (le-ltb n 8207 (omega (arith, f))) (omega (arith, f), omega arith)
 ]
 
--- of an input w, whose first m bytes were read
-pub whole-printed : (w : List ℕ) (m : ℕ) → 8208 ≤ m → printedSheet (take (keptOf (length w)) (take m w)) ≡ printedSheet w
+pub whole-printed : WholePrinted
 unfolding printedSheet
-whole-printed w m h =
-    ap printedSheet (take-take (keptOf (length w)) m w (omega (arith, kept-small (length w))))
+whole-printed w buffer n t =
+    ap printedSheet
+    (sym (take-take (keptOf n) n buffer (kept-below n .0))
+    ∙ ap (take (keptOf n)) (t .first)
+    ∙ take-take (keptOf n) 65536 w (kept-below n .1)
+    ∙ ap (λ (k : ℕ). take (keptOf k) w) (t .whole))
     ∙ ap (λ (r : Run). printed (r .ran) (r .room)) (kept-runs w (replicate 4096 0))

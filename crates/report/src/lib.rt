@@ -2,20 +2,15 @@
 ghost use mathlib.Core.Path.{_≡_};
 ghost use mathlib.Core.Bool.{true};
 ghost use Prim.Native.Nat.{_≤_};
-ghost use lib.ListN.{length, take};
+ghost use lib.ListN.{take};
 ghost use Rattle.sheet.specs.Kept.{keptOf};
+ghost use Rattle.text.specs.Text.{Wrote};
 ghost use Rattle.printed.specs.Lines.{printedSheet};
 use check::same;
 use rules::Ran;
+use text::start;
 
 mod lines;
-
-// The first n bytes.
-fn start(s: &[u8], n: usize) -> &[u8]
-    ensures { λ r. ⌜ now r ≡ take n (now (s .entry)) ⌝ }
-{
-    if n <= s.len() { &s[..n] } else { s }
-}
 
 fn print(text: &[u8; 65536], n: usize) {
     io::write_all(libc::STDOUT_FILENO, start(text, n));
@@ -28,12 +23,10 @@ fn same_text(one: &[u8; 65536], one_end: usize, other: &[u8; 65536], other_end: 
     same(start(one, one_end), start(other, other_end))
 }
 
-// Runs the sheet of which the first bytes are given, and the length of the whole: what is printed for it stands at the start of the lent
-// buffer then, so long as the number that is handed back. No sheet that is accepted has more than 8,206 bytes, so 8,208 first bytes
-// always do.
-fn composed(out: &mut [u8; 65536], first: &[u8], whole: usize) -> usize
-    requires { ⌜ length (now out) ≡ 65536 ⌝ }
-    ensures { λ r. ⌜ (take r (now (out .exit)) ≡ printedSheet (take (keptOf whole) (now (first .entry)))) × (r ≤ 65536) ⌝ }
+// Runs the sheet of which the first bytes are given, and the length of the whole: what is printed for it is put at the start of the lent
+// buffer, and its length is handed back. No sheet that is accepted has more than 8,206 bytes, so 8,208 first bytes always do.
+pub fn composed(out: &mut [u8; 65536], first: &[u8], whole: usize) -> usize
+    ensures { λ r. ⌜ (Wrote (now (out .entry)) 0 (printedSheet (take (keptOf whole) (now (first .entry)))) (now (out .exit)) r) × (r ≤ 65536) ⌝ }
 {
     let n = sheet::kept(whole);
     let mut room = [0u8; 4096];

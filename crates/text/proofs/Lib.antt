@@ -1,2 +1,3 @@
--- Laws of text.
+-- Laws of text, and that the contracts determine.
 pub mod Text
+pub mod Determined

@@ -117,6 +117,10 @@ module _ {old : List ℕ} {at : ℕ} where
   pub wrote-as : {xs ys new : List ℕ} {end : ℕ} → xs ≡ ys → Wrote old at xs new end → Wrote old at ys new end
   wrote-as {xs} {ys} {new} {end} e w = rw (sym e) w
 
+-- bytes put at a place leave one buffer and one place after them
+pub wrote-only : {old bytes new other : List ℕ} {at end to : ℕ} → Wrote old at bytes new end → Wrote old at bytes other to → _≡_ {A = List ℕ × ℕ} (new, end) (other, to)
+wrote-only a b i = ((a .text ∙ sym (b .text)) i, (a .place ∙ sym (b .place)) i)
+
 -- the buffer afterwards: what was before the place, the bytes, and what lies behind them
 pub written-parts : (old : List ℕ) (at : ℕ) (bytes : List ℕ) → at + length bytes ≤ length old → written old at bytes ≡ take at old ++ bytes ++ drop (at + length bytes) old
 unfolding written

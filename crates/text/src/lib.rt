@@ -3,7 +3,7 @@
 ghost use mathlib.Core.Path.{_≡_};
 ghost use mathlib.Core.List.{[], _∷_};
 ghost use Prim.Native.Nat.{_+_, _<_, _≤_};
-ghost use lib.ListN.{length};
+ghost use lib.ListN.{length, take};
 ghost use Rattle.text.specs.Text.{decimal, atMost, Wrote};
 
 pub fn put(out: &mut [u8; 65536], at: usize, x: u8) -> usize
@@ -66,4 +66,11 @@ pub fn at_most(top: usize, n: usize) -> usize
         return n;
     }
     top
+}
+
+// The first n bytes of a text; all of it where it has fewer.
+pub fn start(s: &[u8], n: usize) -> &[u8]
+    ensures { λ r. ⌜ now r ≡ take n (now (s .entry)) ⌝ }
+{
+    if n <= s.len() { &s[..n] } else { s }
 }

@@ -1,11 +1,10 @@
 -- `report::composed` meets its contract: what is put into the buffer is what is printed for the sheet. Assumes nothing.
 use Prim.Native.Nat.{ℕ}
 use mathlib.Core.Path.{_≡_, ap, _∙_}
-use native.Mathlib.Omega.{arith}
-use lib.ListN.{length, take}
+use lib.ListN.{take}
 use borrow.Author.Needs.{needs}
 use Rattle.sheet.specs.Kept.{keptOf}
-use Rattle.text.proofs.Text.{wrote-start}
+use Rattle.text.proofs.Text.{wrote-as}
 use Rattle.printed.proofs.Lines.{sheet-printed}
 use Rattle.report.proofs.composed.Statement.{statement}
 use Rattle.report.proofs.composed.Tie as tie
@@ -28,12 +27,9 @@ report-requires c κs = search needs
 returns : tie.Need-returns
 returns c =
     let at-start = c .before .before .before .before .before .before .before .before .before in
-    let long : length (at-start .args .out .now) ≡ 65536 = at-start .pre in
     let kept : c .before .before .before .before .before .before .start .result .now ≡ take (keptOf (at-start .args .whole)) (at-start .args .first .now) =
-    c .before .before .before .before .before .before .start .ensures ∙ ap (λ (n : ℕ). take n (at-start .args .first .now)) (c .before .before .before .before .before .before .before .kept .ensures) in (
-      wrote-start _ _ _ _ (c .report .ensures .0) (omega (arith, c .report .ensures .1)) ∙ sheet-printed _ kept (c .before .before .before .before .run .ensures .0) (c .before .before .before .before .run .ensures .1),
-      c .report .ensures .1,
-    )
+    c .before .before .before .before .before .before .start .ensures ∙ ap (λ (n : ℕ). take n (at-start .args .first .now)) (c .before .before .before .before .before .before .before .kept .ensures) in
+    (wrote-as (sheet-printed _ kept (c .before .before .before .before .run .ensures .0) (c .before .before .before .before .run .ensures .1)) (c .report .ensures .0), c .report .ensures .1)
 
 pub composed-spec : {M : Type 1} → statement M
 composed-spec =

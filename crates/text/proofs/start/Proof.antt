@@ -1,9 +1,9 @@
--- `report::start` meets its contract. Assumes nothing.
+-- `text::start` meets its contract. Assumes nothing.
 use mathlib.Core.Path.{sym}
 use lib.Seq.{length-take-le, take-all}
 use borrow.Author.Needs.{needs}
-use Rattle.report.proofs.start.Statement.{statement}
-use Rattle.report.proofs.start.Tie as tie
+use Rattle.text.proofs.start.Statement.{statement}
+use Rattle.text.proofs.start.Tie as tie
 
 slice-aggregate-result : tie.Need-slice-aggregate-result
 slice-aggregate-result c = sym (length-take-le (c .before .before .args .n) (c .before .before .args .s .now) (search needs))

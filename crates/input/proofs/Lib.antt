@@ -1,0 +1,2 @@
+-- Laws of what was read.
+pub mod Pieces

@@ -1,0 +1,91 @@
+-- An input that is read piece by piece: each piece lengthens what was read by itself. Assumes nothing.
+use mathlib.Core.Path.{_≡_, refl, sym, ap, _∙_}
+use mathlib.Core.List.{List, [], _∷_, _++_, append-nil}
+use Prim.Native.Nat.{ℕ, zero, suc, _+_, _-_, _≤_, _<_}
+use native.Mathlib.Omega.{arith}
+use native.Mathlib.Decide.{decLt}
+use lib.ListN.{length, take, drop, length-append, length-take}
+use lib.Seq.{take-all, take-append-le, take-append-add, take-at, length-take-le, length-sets, drop-length}
+use Rattle.text.specs.Text.{written, Wrote}
+use Rattle.text.proofs.Text.{written-parts}
+use Rattle.input.specs.Input.{Taken, behind}
+
+-- nothing was read yet
+pub taken-none : (buffer : List ℕ) → Taken [] buffer 0
+taken-none buffer = record { first = refl; whole = refl }
+
+pub behind-length : (buffer : List ℕ) (n : ℕ) (p : List ℕ) → length (behind buffer n p) ≡ length buffer
+unfolding behind written
+behind-length buffer n p = length-sets buffer n (take (65536 - n) p)
+
+module _ (buffer w p : List ℕ) (n : ℕ) (size : length buffer ≡ 65536) (t : Taken w buffer n) where
+  -- the buffer is full: nothing is put
+  full : 65536 ≤ n → take (n + length p) (behind buffer n p) ≡ take 65536 (w ++ p)
+  unfolding behind written
+  full h =
+      let none : 65536 - n ≡ 0 = omega arith in
+      rw none
+      (take-all (n + length p) buffer (omega arith)
+      ∙ sym (take-all n buffer (omega arith))
+      ∙ t .first
+      ∙ sym (take-append-le 65536 w p (omega (arith, t .whole))))
+
+  -- where there was room, the buffer holds all that came before
+  before : n ≤ 65536 → take n buffer ≡ w
+  before h = t .first ∙ take-all 65536 w (omega (arith, t .whole))
+
+  -- the whole piece fits
+  fitting : n + length p ≤ 65536 → take (n + length p) (behind buffer n p) ≡ take 65536 (w ++ p)
+  unfolding behind
+  fitting h =
+      let size-of : length (w ++ p) ≡ n + length p = length-append w p ∙ ap (λ (k : ℕ). k + length p) (sym (t .whole)) in
+      rw (take-all (65536 - n) p (omega arith))
+      (ap (take (n + length p)) (written-parts buffer n p (omega arith))
+      ∙ ap (λ (x : List ℕ). take (n + length p) (x ++ p ++ drop (n + length p) buffer)) (before (omega arith))
+      ∙ take-at (w ++ p) (drop (n + length p) buffer) (n + length p) size-of
+      ∙ sym (take-all 65536 (w ++ p) (omega (arith, size-of))))
+
+  -- a part of it does, and fills the buffer
+  filling : n < 65536 → 65536 < n + length p → take (n + length p) (behind buffer n p) ≡ take 65536 (w ++ p)
+  unfolding behind
+  filling h g =
+      let q = take (65536 - n) p in
+      let some : length q ≡ 65536 - n = length-take-le (65536 - n) p (omega arith) in
+      let up : n + length q ≡ length buffer = omega (arith, some, size) in
+      let rest : drop (n + length q) buffer ≡ [] = ap (λ (k : ℕ). drop k buffer) up ∙ drop-length buffer in
+      let sum : length w + (65536 - n) ≡ 65536 = omega (arith, t .whole) in
+      take-all (n + length p) (behind buffer n p) (omega (arith, behind-length buffer n p))
+      ∙ written-parts buffer n q (omega (arith, some))
+      ∙ ap (λ (x : List ℕ). x ++ q ++ drop (n + length q) buffer) (before (omega arith))
+      ∙ ap (λ (x : List ℕ). w ++ q ++ x) rest
+      ∙ append-nil (w ++ q)
+      ∙ sym (take-append-add w p (65536 - n))
+      ∙ ap (λ (k : ℕ). take k (w ++ p)) sum
+
+  pub taken-more : Taken (w ++ p) (behind buffer n p) (n + length p)
+  taken-more = record {
+    first = elim (decLt n 65536) [
+      | yes h ↦ elim (decLt 65536 (n + length p)) [ yes g ↦ filling h g | no g ↦ fitting (omega (arith, g)) ]
+      | no h ↦ full (omega (arith, h))
+    ];
+    whole = ap (λ (k : ℕ). k + length p) (t .whole) ∙ sym (length-append w p);
+  }
+
+-- of some input, and of one that is longer by a piece
+pub some-more : (buffer p : List ℕ) (n : ℕ) {after : List ℕ} {m : ℕ} → length buffer ≡ 65536 → ((w : List ℕ) × Taken w buffer n) → after ≡ behind buffer n p → m ≡ n + length p → ((w : List ℕ) × Taken w after m)
+some-more buffer p n size t e f = rw (e, f) (t .0 ++ p, taken-more buffer (t .0) p n size (t .1))
+
+pub as-long : (buffer p : List ℕ) (n : ℕ) {after : List ℕ} → length buffer ≡ 65536 → after ≡ behind buffer n p → length after ≡ 65536
+as-long buffer p n size e = rw e (behind-length buffer n p ∙ size)
+
+-- ---- one piece, as the code takes it in
+pub behind-full : (buffer : List ℕ) (n : ℕ) (p : List ℕ) → 65536 ≤ n → buffer ≡ behind buffer n p
+unfolding behind written
+behind-full buffer n p h = let none : 65536 - n ≡ 0 = omega arith in rw none
+
+pub behind-put : (p : List ℕ) (n : ℕ) {buffer after q : List ℕ} {end : ℕ} → q ≡ take (65536 - n) p → Wrote buffer n q after end → after ≡ behind buffer n p
+unfolding behind
+behind-put p n {buffer} {after} {q} {end} e w = rw (sym e) (w .text)
+
+pub fits : (n : ℕ) (q p : List ℕ) → n < 65536 → q ≡ take (65536 - n) p → n + length q ≤ 65536
+fits n q p h e = omega (arith, ap length e, length-take (65536 - n) p)

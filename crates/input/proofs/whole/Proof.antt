@@ -1,0 +1,71 @@
+-- `input::whole` meets its contract: each piece lengthens what was read by itself, and the turns are counted. Assumes nothing.
+use mathlib.Core.Path.{_≡_, sym}
+use mathlib.Core.List.{List, []}
+use Prim.Native.Nat.{ℕ, _*_, _-_, _≤_}
+use lib.ListN.{length}
+use borrow.Author.Needs.{needs}
+use Rattle.input.specs.Input.{Taken}
+use Rattle.input.proofs.Pieces.{taken-none, some-more, as-long}
+use Rattle.input.proofs.whole.Statement.{statement}
+use Rattle.input.proofs.whole.Tie as tie
+
+abbrev Inv-loop : tie.InvT-loop
+Inv-loop fd first₀ piece₀ total₀ turns₀ first piece total turns = (turns ≤ 70368744177664) × (total ≤ 65536 * turns) × (length piece ≡ 65536) × (length first ≡ 65536) × ((w : List ℕ) × Taken w first total)
+
+abbrev μ-loop : tie.MeasureT-loop
+μ-loop fd first₀ piece₀ total₀ turns₀ first piece total turns = 70368744177664 - turns
+
+large-buffer-requires : tie.Need-large-buffer-requires Inv-loop μ-loop
+large-buffer-requires c κs = search needs
+
+loop-holds : tie.Need-loop-holds Inv-loop μ-loop
+loop-holds c = (search needs, search needs, search needs, search needs, ([], taken-none _))
+
+slice-aggregate-read-full : tie.Need-slice-aggregate-read-full Inv-loop μ-loop
+slice-aggregate-read-full c = search needs
+
+read-full-requires : tie.Need-read-full-requires Inv-loop μ-loop
+read-full-requires c κs = search needs
+
+array-share-prefix-piece : tie.Need-array-share-prefix-piece Inv-loop μ-loop
+array-share-prefix-piece c = search needs
+
+slice-aggregate-taken : tie.Need-slice-aggregate-taken Inv-loop μ-loop
+slice-aggregate-taken c = search needs
+
+taken-requires : tie.Need-taken-requires Inv-loop μ-loop
+taken-requires c κs = search needs
+
+returns : tie.Need-returns Inv-loop μ-loop
+returns c = (sym (as-long _ _ _ (c .before .before .before .before .before .before .before .before .loop .inv .3) (c .before .taken .ensures .0)), some-more _ _ _ (c .before .before .before .before .before .before .before .before .loop .inv .3) (c .before .before .before .before .before .before .before .before .loop .inv .4) (c .before .taken .ensures .0) (c .before .taken .ensures .1))
+
+add-turns : tie.Need-add-turns Inv-loop μ-loop
+add-turns c = search needs
+
+loop-less : tie.Need-loop-less Inv-loop μ-loop
+loop-less c = search needs
+
+loop-again : tie.Need-loop-again Inv-loop μ-loop
+loop-again c = (search needs, search needs, search needs, as-long _ _ _ (c .before .before .before .before .before .before .before .before .loop .inv .3) (c .before .taken .ensures .0), some-more _ _ _ (c .before .before .before .before .before .before .before .before .loop .inv .3) (c .before .before .before .before .before .before .before .before .loop .inv .4) (c .before .taken .ensures .0) (c .before .taken .ensures .1))
+
+returns-2 : tie.Need-returns-2 Inv-loop μ-loop
+returns-2 c = (sym (c .before .loop .inv .3), c .before .loop .inv .4)
+
+pub whole-spec : {M : Type 1} → statement M
+whole-spec =
+    tie.close
+    (tie.spec
+    Inv-loop
+    μ-loop
+    large-buffer-requires
+    loop-holds
+    slice-aggregate-read-full
+    read-full-requires
+    array-share-prefix-piece
+    slice-aggregate-taken
+    taken-requires
+    returns
+    add-turns
+    loop-less
+    loop-again
+    returns-2)

@@ -1,0 +1,41 @@
+// Reads an input to its end: its first bytes are kept in a lent buffer, and all of its bytes are counted. No sheet fills the buffer, but whether
+// the length of a longer input is odd decides how it is refused.
+ghost use mathlib.Core.Path.{_≡_};
+ghost use mathlib.Core.List.{List};
+ghost use Prim.Native.Nat.{ℕ, _+_, _<_, _≤_, _^_};
+ghost use lib.ListN.{length};
+ghost use Rattle.input.specs.Input.{behind, Taken};
+use text::start;
+use text::word;
+
+// A piece is taken in behind the `total` bytes before it, as much of it as the buffer has room for. Handed back is how many there are then.
+fn taken(first: &mut [u8; 65536], total: usize, piece: &[u8]) -> usize
+    requires { ⌜ total + length (now piece) < 2 ^ 64 ⌝ }
+    ensures { λ r. ⌜ (now (first .exit) ≡ behind (now (first .entry)) total (now (piece .entry))) × (r ≡ total + length (now (piece .entry))) ⌝ }
+{
+    if 65536 <= total {
+        return total + piece.len();
+    }
+    word(first, total, start(piece, 65536 - total));
+    total + piece.len()
+}
+
+// All of the input, piece by piece; a read that fails is its end. A proved loop has to end, so it counts its turns, up to a number that no
+// input reaches.
+pub fn whole(fd: i32, first: &mut [u8; 65536]) -> usize
+    requires { ⌜ length (now first) ≡ 65536 ⌝ }
+    ensures { λ r. ⌜ (65536 ≡ length (now (first .exit))) × ((w : List ℕ) × Taken w (now (first .exit)) r) ⌝ }
+{
+    let mut piece = io::large_buffer();
+    let mut total: usize = 0;
+    let mut turns: usize = 0;
+    while turns < 70368744177664 {
+        let n = io::read_full(fd, &mut piece);
+        total = taken(first, total, &piece[..n]);
+        if n < 65536 {
+            return total;
+        }
+        turns += 1;
+    }
+    total
+}

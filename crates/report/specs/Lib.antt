@@ -1,0 +1,2 @@
+-- What is promised of an input as a whole.
+pub mod Whole
