@@ -149,7 +149,7 @@ pub fn turns(start: Board, s: &[u8], lowest: bool, most: usize, room: &mut [u8],
             }
             Kind::ListToObject(x) => {
                 let book = b.objects[wide(x)];
-                let place = lists::place_in(book, crate::packed::asked_of(list));
+                let place = objects::place_in(book, crate::packed::asked_of(list));
                 if lists::closes(list, book, place) {
                     let si = wide(crate::packed::starter_of(list));
                     let ring = lists::ring::along_leads(list, wide(list.next));

@@ -8,8 +8,8 @@ use borrow.Author.Count.{below-more}
 use Rattle.rules.specs.Book.{placeIn, whoAt}
 use Rattle.rules.proofs.Tables.{place-first, place-none}
 use borrow.Author.Needs.{needs}
-use Rattle.lists.proofs.place_in.Statement.{statement}
-use Rattle.lists.proofs.place_in.Tie as tie
+use Rattle.objects.proofs.place_in.Statement.{statement}
+use Rattle.objects.proofs.place_in.Tie as tie
 
 abbrev Inv-loop : tie.InvT-loop
 Inv-loop p n line k₀ k = (k ≤ n) × (n ≤ 16) × ((j : ℕ) → j < k → getD line j 0 ≢ p)
