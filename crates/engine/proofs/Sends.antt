@@ -16,7 +16,7 @@ use Rattle.rules.specs.Lists.{noEntries}
 use Rattle.rules.specs.Board.{with, noFlight, objectAt, kindAt, putObject, putMessage, freed, isMessage, send, kindLoad, load}
 use Rattle.rules.proofs.Bits.{without-same, lowest-free, lowest-free-some}
 use Rattle.rules.proofs.Tables.{not-passed, not-failed}
-use Rattle.counts.proofs.Sums as Sums
+use Rattle.sums.proofs.Sums as Sums
 use Rattle.rules.proofs.Load.{Matched, message-load, no-message, matched-free, send-sent, load-freed, load-free-number, load-object}
 
 -- ---- a record that is read out of a table, with any default

@@ -127,7 +127,7 @@ pub fn turns(start: Board, s: &[u8], drains: bool, most: usize, room: &mut [u8],
                     continue;
                 }
                 b = crate::grants::grant_rest(b, struck, x, granted);
-                load = counts::load(b);
+                load = sums::load(b);
             }
             Kind::ListToHome => {
                 let qi = wide(crate::packed::asked_of(list));

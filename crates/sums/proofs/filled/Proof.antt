@@ -1,8 +1,8 @@
 -- A place is filled where its count is not zero. Assumes nothing.
 use native.Mathlib.Omega.{arith}
 use borrow.Author.Tests.{lt-ltb, le-ltb}
-use Rattle.counts.proofs.filled.Statement.{statement}
-use Rattle.counts.proofs.filled.Tie as tie
+use Rattle.sums.proofs.filled.Statement.{statement}
+use Rattle.sums.proofs.filled.Tie as tie
 
 returns : tie.Need-returns
 returns c = (rw (lt-ltb _ _ (c .if1 .taken)), omega arith)

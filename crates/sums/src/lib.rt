@@ -1,4 +1,4 @@
-// What is counted on a board: its load and its recorded rings.
+// The two sums over a board: its load and its ring tally.
 ghost use mathlib.Core.Path.{_≡_};
 ghost use Prim.Native.Nat.{_≤_};
 ghost use lib.Dec.{ltb};

@@ -1,9 +1,9 @@
--- Both counts together. Assumes nothing.
+-- Both sums together. Assumes nothing.
 use borrow.Author.Needs.{needs}
 use native.Mathlib.Omega.{arith}
 use Rattle.rules.specs.Board.{load}
-use Rattle.counts.proofs.load.Statement.{statement}
-use Rattle.counts.proofs.load.Tie as tie
+use Rattle.sums.proofs.load.Statement.{statement}
+use Rattle.sums.proofs.load.Tie as tie
 
 in-messages-requires : tie.Need-in-messages-requires
 in-messages-requires c κs = search needs

@@ -4,12 +4,12 @@ use mathlib.Core.Path.{_≡_, ap, _∙_}
 use Prim.Native.Nat.{_≤_, _-_, _*_}
 use native.Mathlib.Omega.{arith}
 use lib.ListN.{length}
-use Rattle.counts.proofs.Sums.{sum-more, sum-none, read-at, length-mapped}
+use Rattle.sums.proofs.Sums.{sum-more, sum-none, read-at, length-mapped}
 use Rattle.rules.specs.declared.Object.{Object}
 use Rattle.rules.specs.Tables.{sum}
 use Rattle.rules.specs.Board.{objectAt}
-use Rattle.counts.proofs.in_lines.Statement.{statement}
-use Rattle.counts.proofs.in_lines.Tie as tie
+use Rattle.sums.proofs.in_lines.Statement.{statement}
+use Rattle.sums.proofs.in_lines.Tie as tie
 
 abbrev Inv-loop : tie.InvT-loop
 Inv-loop b load₀ o₀ load o = (o ≤ 16) × (load ≤ 255 * o) × (load ≡ sum o (λ k. objectAt b k .«line_count»))

@@ -4,12 +4,12 @@ use mathlib.Core.Path.{_≡_, ap, _∙_}
 use Prim.Native.Nat.{_≤_, _-_, _*_}
 use native.Mathlib.Omega.{arith}
 use lib.ListN.{length}
-use Rattle.counts.proofs.Sums.{sum-more, sum-none, read-at, length-mapped}
+use Rattle.sums.proofs.Sums.{sum-more, sum-none, read-at, length-mapped}
 use Rattle.rules.specs.declared.Flight.{Flight}
 use Rattle.rules.specs.Tables.{sum}
 use Rattle.rules.specs.Board.{kindLoad, kindAt}
-use Rattle.counts.proofs.in_messages.Statement.{statement}
-use Rattle.counts.proofs.in_messages.Tie as tie
+use Rattle.sums.proofs.in_messages.Statement.{statement}
+use Rattle.sums.proofs.in_messages.Tie as tie
 
 abbrev Inv-loop : tie.InvT-loop
 Inv-loop b load₀ n₀ load n = (n ≤ 64) × (load ≤ 2 * n) × (load ≡ sum n (λ k. kindLoad (kindAt b k)))

@@ -4,13 +4,13 @@ use mathlib.Core.Path.{_≡_, ap, _∙_}
 use Prim.Native.Nat.{_≤_, _-_, _*_}
 use native.Mathlib.Omega.{arith}
 use lib.ListN.{length}
-use Rattle.counts.proofs.Sums.{sum-more, sum-none, read-at, length-mapped}
+use Rattle.sums.proofs.Sums.{sum-more, sum-none, read-at, length-mapped}
 use lib.Dec.{ltb}
 use Rattle.rules.specs.declared.Ring.{Ring}
 use Rattle.rules.specs.Tables.{pick, sum}
 use Rattle.rules.specs.Board.{ringAt, tally as rings}
-use Rattle.counts.proofs.tally.Statement.{statement}
-use Rattle.counts.proofs.tally.Tie as tie
+use Rattle.sums.proofs.tally.Statement.{statement}
+use Rattle.sums.proofs.tally.Tie as tie
 
 abbrev Inv-loop : tie.InvT-loop
 Inv-loop b tally₀ s₀ tally s = (s ≤ 16) × (tally ≤ 1 * s) × (tally ≡ sum s (λ k. pick (ltb 0 (ringAt b k .count)) 1 0))

@@ -11,8 +11,8 @@ use contract.Monad.{Fun}
 use Rattle.rules.specs.Board as Board
 use Rattle.rules.specs.Determined.{Determined}
 use Rattle.rules.proofs.Determined.{by-equation-with}
-use Rattle.counts.proofs.load as load
-use Rattle.counts.proofs.tally as tally
+use Rattle.sums.proofs.load as load
+use Rattle.sums.proofs.tally as tally
 
 module _ {M : Type 1} (𝓤 : URA M) (H : Heap 𝓤) (A : Atoms 𝓤) (mem : Memory → SProp 𝓤) (run : Routine → Fun 𝓤) where
   pub load-determined : Determined load.ended (load.clauses 𝓤 H A mem run) (λ κs r e. r)
