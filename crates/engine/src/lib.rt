@@ -18,7 +18,14 @@ mod packed;
 
 // Each command of the slice, two bytes a command, on the board; each answer's number into the room. Or, where it `drains`, the lowest
 // number in flight is delivered again and again, until none is left. At most so many turns. The caller says the load at the start.
-pub fn turns(start: Board, s: &[u8], drains: bool, most: usize, room: &mut [u8], load_at_start: usize) -> Ran
+pub fn turns(
+    start: Board,
+    s: &[u8],
+    drains: bool,
+    most: usize,
+    room: &mut [u8],
+    load_at_start: usize,
+) -> Ran
     requires { ⌜ Ready start × Reach drains (now s) most (now room) × («load_at_start» ≡ Boards.load start) ⌝ }
     ensures { λ r. ⌜ Worked drains start (now (s .entry)) most (now (room .entry)) r (now (room .exit)) ⌝ }
 {

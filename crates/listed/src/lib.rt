@@ -23,7 +23,7 @@ fn sheet(name: &[u8], way: Way) {
     libc::close(fd);
     match way {
         Way::AtOnce => report::show(&bytes[..n], n),
-        Way::InTurns => turns::show(&bytes[..n]),
+        Way::InTurns => steps::show(&bytes[..n]),
     }
 }
 

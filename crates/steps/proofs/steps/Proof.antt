@@ -1,11 +1,11 @@
--- `turns::steps` meets its contract. The invariant: board and room are those after the commands passed. Assumes nothing.
+-- `steps::steps` meets its contract. The invariant: board and room are those after the commands passed. Assumes nothing.
 use mathlib.Core.Path.{refl}
 use Prim.Native.Nat.{_-_, _≤_}
 use borrow.Author.Needs.{needs}
-use Rattle.turns.specs.Turns.{boardBySteps, roomBySteps}
-use Rattle.turns.proofs.Reaching.{Reached, one-more, at-last}
-use Rattle.turns.proofs.steps.Statement.{statement}
-use Rattle.turns.proofs.steps.Tie as tie
+use Rattle.steps.specs.BySteps.{boardBySteps, roomBySteps}
+use Rattle.steps.proofs.Reaching.{Reached, one-more, at-last}
+use Rattle.steps.proofs.steps.Statement.{statement}
+use Rattle.steps.proofs.steps.Tie as tie
 
 abbrev Inv-loop : tie.InvT-loop
 Inv-loop part n lent room₀ b₀ i₀ room b i = (i ≤ n) × Reached b₀ part room₀ i b room

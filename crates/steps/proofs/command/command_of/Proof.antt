@@ -1,8 +1,8 @@
--- `turns::command::command_of` meets its contract, kind by kind. Assumes nothing.
+-- `steps::command::command_of` meets its contract, kind by kind. Assumes nothing.
 use borrow.Author.Needs.{needs}
-use Rattle.turns.proofs.ByKind.{request, release, delivery}
-use Rattle.turns.proofs.command.command_of.Statement.{statement}
-use Rattle.turns.proofs.command.command_of.Tie as tie
+use Rattle.steps.proofs.ByKind.{request, release, delivery}
+use Rattle.steps.proofs.command.command_of.Statement.{statement}
+use Rattle.steps.proofs.command.command_of.Tie as tie
 
 mul-o : tie.Need-mul-o
 mul-o c = search needs

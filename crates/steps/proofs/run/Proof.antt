@@ -1,12 +1,12 @@
--- `turns::run` meets its contract: the sheet without its commands opens the board, and the commands are stepped on it. Assumes nothing.
+-- `steps::run` meets its contract: the sheet without its commands opens the board, and the commands are stepped on it. Assumes nothing.
 use mathlib.Core.Path.{sym}
 use native.Mathlib.Omega.{arith}
 use lib.Seq.{length-take-le}
 use borrow.Author.Needs.{needs}
-use Rattle.turns.proofs.Shorter.{part-shorter}
-use Rattle.turns.proofs.Reaching.{whole-sheet}
-use Rattle.turns.proofs.run.Statement.{statement}
-use Rattle.turns.proofs.run.Tie as tie
+use Rattle.steps.proofs.Shorter.{part-shorter}
+use Rattle.steps.proofs.Reaching.{whole-sheet}
+use Rattle.steps.proofs.run.Statement.{statement}
+use Rattle.steps.proofs.run.Tie as tie
 
 commands-requires : tie.Need-commands-requires
 commands-requires c κs = search needs

@@ -1,10 +1,10 @@
--- `turns::command::command_at` meets its contract: a command stands in two bytes. Assumes nothing.
+-- `steps::command::command_at` meets its contract: a command stands in two bytes. Assumes nothing.
 use mathlib.Core.Path.{sym, _∙_}
 use Prim.Native.Nat.{_+_, _*_}
 use borrow.Author.Needs.{needs}
 use Rattle.rules.proofs.Sheet.{command-bytes}
-use Rattle.turns.proofs.command.command_at.Statement.{statement}
-use Rattle.turns.proofs.command.command_at.Tie as tie
+use Rattle.steps.proofs.command.command_at.Statement.{statement}
+use Rattle.steps.proofs.command.command_at.Tie as tie
 
 mul-command-of : tie.Need-mul-command-of
 mul-command-of c = search needs

@@ -4,7 +4,7 @@ ghost use mathlib.Core.Path.{_≡_};
 ghost use Prim.Native.Nat.{_*_, _≤_};
 ghost use lib.ListN.{length};
 ghost use Rattle.rules.specs.Shape as Rules;
-ghost use Rattle.turns.specs.Turns.{boardBySteps, roomBySteps, commandsOf, bySteps};
+ghost use Rattle.steps.specs.BySteps.{boardBySteps, roomBySteps, commandsOf, bySteps};
 use crate::command::command_at;
 use rules::Board;
 use rules::Command;

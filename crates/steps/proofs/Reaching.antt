@@ -12,7 +12,7 @@ use Rattle.rules.specs.declared.Ran.{Ran}
 use Rattle.rules.specs.Answers.{number}
 use Rattle.rules.specs.Shape.{step}
 use Rattle.rules.specs.Sheet.{commandAt, commandsPart}
-use Rattle.turns.specs.Turns.{boardBySteps, roomBySteps, openedBy, commandsOf, bySteps}
+use Rattle.steps.specs.BySteps.{boardBySteps, roomBySteps, openedBy, commandsOf, bySteps}
 
 module _ (b₀ : Board) (s room₀ : List ℕ) where
   -- board and room are those after i commands

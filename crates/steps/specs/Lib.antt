@@ -1,2 +1,2 @@
 -- What commands one by one come to.
-pub mod Turns
+pub mod BySteps
