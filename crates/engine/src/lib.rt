@@ -24,15 +24,15 @@ pub fn turns(
     drains: bool,
     most: usize,
     room: &mut [u8],
-    load_at_start: usize,
+    loaded: usize,
 ) -> Ran
-    requires { ⌜ Ready start × Reach drains (now s) most (now room) × («load_at_start» ≡ Boards.load start) ⌝ }
+    requires { ⌜ Ready start × Reach drains (now s) most (now room) × (loaded ≡ Boards.load start) ⌝ }
     ensures { λ r. ⌜ Worked drains start (now (s .entry)) most (now (room .entry)) r (now (room .exit)) ⌝ }
 {
     let mut b = start;
     let free = Flight { kind: Kind::Free };
     let none = values::message::no_entries();
-    let mut load = load_at_start;
+    let mut load = loaded;
     let mut i: usize = 0;
     while i < most {
         if crate::next::is_over(drains, b.occupied) {

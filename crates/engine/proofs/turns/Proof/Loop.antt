@@ -100,7 +100,7 @@ pub no-entries-requires : tie.Need-no-entries-requires Inv-loop μ-loop
 no-entries-requires c κs = search needs
 
 pub loop-holds : tie.Need-loop-holds Inv-loop μ-loop
-loop-holds c = working-starts (c .before .before .before .args .drains) (c .before .before .before .args .start) (c .before .before .before .args .s .now) (c .before .before .before .args .room .now) (c .before .before .before .args .most) (c .before .before .before .args .«load_at_start») (c .before .before .before .pre .0) (c .before .before .before .pre .1) (c .before .before .before .pre .2)
+loop-holds c = working-starts (c .before .before .before .args .drains) (c .before .before .before .args .start) (c .before .before .before .args .s .now) (c .before .before .before .args .room .now) (c .before .before .before .args .most) (c .before .before .before .args .loaded) (c .before .before .before .pre .0) (c .before .before .before .pre .1) (c .before .before .before .pre .2)
 
 pub is-over-requires : tie.Need-is-over-requires Inv-loop μ-loop
 is-over-requires c κs = search needs
