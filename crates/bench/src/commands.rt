@@ -16,7 +16,7 @@ pub fn once(b: Board, hi: u8, lo: u8) -> Stepped
 {
     let s = [hi, lo];
     let mut room = [0u8; 1];
-    let r = engine::turns(b, &s, false, 1, &mut room, counts::load(b));
+    let r = engine::turns(b, &s, false, 1, &mut room, sums::load(b));
     let next = r.board;
     Stepped {
         answer: values::answer::answer_of(room[0]),

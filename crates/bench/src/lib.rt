@@ -79,7 +79,7 @@ pub fn run(b: Board, s: &[u8], room: &mut [u8]) -> Ran
     if room.len() < n {
         return refused(Answer::RoomTooShort, b);
     }
-    engine::turns(b, s, false, n, room, counts::load(b))
+    engine::turns(b, s, false, n, room, sums::load(b))
 }
 
 // An opening, and packed commands on it. An opening is in shape, so the shape is not asked. Where the call is refused, for any reason,
@@ -125,7 +125,7 @@ pub fn drain(b: Board, budget: usize) -> Drained
     // The engine reads no command of a drain; the room takes the answers, which are not kept.
     let s = [0u8; 2];
     let mut room = [0u8; 1];
-    let r = engine::turns(b, &s, true, budget, &mut room, counts::load(b));
+    let r = engine::turns(b, &s, true, budget, &mut room, sums::load(b));
     let next = r.board;
     Drained {
         answer: Answer::Done,

@@ -17,7 +17,7 @@ use Rattle.rules.proofs.Determined.{by-fact}
 use Rattle.engine.specs.Work.{Worked}
 use Rattle.engine.proofs.turns as turns
 
-one-work : (lowest : Bool) (b : Board) (s : List ℕ) (most : ℕ) (room : List ℕ) (r other : Ran) (after left : List ℕ) → Worked lowest b s most room r after → Worked lowest b s most room other left → r ≡ other
+one-work : (drains : Bool) (b : Board) (s : List ℕ) (most : ℕ) (room : List ℕ) (r other : Ran) (after left : List ℕ) → Worked drains b s most room r after → Worked drains b s most room other left → r ≡ other
 one-work true b s most room r other after left p q = p .drain refl ∙ sym (q .drain refl)
 one-work false b s most room r other after left p q = p .sheet refl .0 ∙ sym (q .sheet refl .0)
 

@@ -46,7 +46,7 @@ module _ (y : Board) (w : ℕ) (ew : w ≡ load y) (i : ℕ) (h : i < 16) (z : l
   unfolding sendGrants placesFrom
   none-granted f =
       let e = let-in-ends x f in
-      record { board = rw e at (placed 0 (omega (arith, ap (λ (b : Object). b .«line_count») e))); weight = omega (arith, load-object y i x h inside) }
+      record { board = rw e at (placed 0 (omega (arith, ap (λ (b : Object). b .«line_count») e))); loaded = omega (arith, load-object y i x h inside) }
 
   -- the first is let in: its grant takes the lowest free number t
   module _ (f : frontGoes x ≡ true) (o : ℕ) (ei : i ≡ o) (next : Object) (en : next ≡ letIn x) (out : Kind) (ek : out ≡ Grant (whoAt x 0) o (modeAt x 0)) (none : Entries) (ez : none ≡ noEntries)
@@ -78,10 +78,10 @@ module _ (y : Board) (w : ℕ) (ew : w ≡ load y) (i : ℕ) (h : i < 16) (z : l
 
     one-granted : granted ≡ 1 → Made firstGranted w last
     unfolding sendGrants placesFrom
-    one-granted e = record { board = (let d : granted - 1 ≡ 0 = omega arith in rw d at left); weight = omega (arith, sent .weight, load-some) }
+    one-granted e = record { board = (let d : granted - 1 ≡ 0 = omega arith in rw d at left); loaded = omega (arith, sent .loaded, load-some) }
 
     more-granted : (r : Board) (v : ℕ) → r ≡ sendGrants firstGranted o (placesFrom x 1 (granted - 1)) → v ≡ load r → Made r v last
-    more-granted r v er ev = record { board = er ∙ left; weight = ev }
+    more-granted r v er ev = record { board = er ∙ left; loaded = ev }
 
     pub first-granted : LetIn firstGranted w o x granted last
     first-granted = record { ends = one-granted; goes = more-granted }

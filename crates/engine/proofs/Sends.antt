@@ -16,7 +16,7 @@ use Rattle.rules.specs.Lists.{noEntries}
 use Rattle.rules.specs.Board.{with, noFlight, objectAt, kindAt, putObject, putMessage, freed, isMessage, send, kindLoad, load}
 use Rattle.rules.proofs.Bits.{without-same, lowest-free, lowest-free-some}
 use Rattle.rules.proofs.Tables.{not-passed, not-failed}
-use Rattle.counts.proofs.Sums as Sums
+use Rattle.sums.proofs.Sums as Sums
 use Rattle.rules.proofs.Load.{Matched, message-load, no-message, matched-free, send-sent, load-freed, load-free-number, load-object}
 
 -- ---- a record that is read out of a table, with any default
@@ -30,7 +30,7 @@ one-free occ n h = omega (arith, lowest-free-some (withoutBit occ n) n h (withou
 -- ---- what the engine makes of a turn: the rule's board, with its load
 pub record Made (x : Board) (w : ℕ) (y : Board) : Type 0 where
   pub board : x ≡ y
-  pub weight : w ≡ load x
+  pub loaded : w ≡ load x
 
 none-to-send : (k : Kind) → kindLoad k ≡ 0 → isMessage k ≡ false
 none-to-send k e = not-passed (isMessage k) (λ t. omega (arith, message-load k t))
@@ -62,15 +62,15 @@ module _ (y : Board) (m : Message) (t occ : ℕ) (et : t ≡ lowestFree (y .occu
 -- message m is sent on board y, of load w, by what the code found: its load, and the lowest free number t
 module _ (y : Board) (w : ℕ) (ew : w ≡ load y) (m : Message) (more : ℕ) (em : more ≡ kindLoad (m .kind)) (last : Board) (el : send y m ≡ last) where
   pub sent-none : more ≡ 0 → Made y w last
-  sent-none z = record { board = sends-none y m (none-to-send (m .kind) (sym em ∙ z)) ∙ el; weight = ew }
+  sent-none z = record { board = sends-none y m (none-to-send (m .kind) (sym em ∙ z)) ∙ el; loaded = ew }
 
   pub sent-here : length (y .flights) ≡ 64 → Matched y → (t occ : ℕ) (et : t ≡ lowestFree (y .occupied)) (eo : occ ≡ withBit (y .occupied) t) (l : t < 64) → more ≢ 0 → Made (put y m t occ et eo l) (w + more) last
   sent-here z h t occ et eo l n = record {
     board = put-sends y m t occ et eo l (some-to-send (m .kind) (λ f. n (em ∙ f))) ∙ el;
-    weight = omega (arith, ew, em, put-load y m t occ et eo l z h);
+    loaded = omega (arith, ew, em, put-load y m t occ et eo l z h);
   }
 
--- ---- weights: a number freed, a process's book, an object's book
+-- ---- loads: a number freed, a process's book, an object's book
 module _ (b : Board) (n : ℕ) (h : n < 64) (w less : ℕ) (ew : w ≡ load b) (k : Kind) (ek : kindAt b n ≡ k) (el : less ≡ kindLoad k) where
   freed-load : load (freed b n) + less ≡ w
   freed-load = omega (arith, load-freed b n h, ap kindLoad ek)
@@ -78,8 +78,8 @@ module _ (b : Board) (n : ℕ) (h : n < 64) (w less : ℕ) (ew : w ≡ load b) (
   pub freed-fits : less ≤ w
   freed-fits = omega (arith, freed-load)
 
-  pub freed-weight : (y : Board) → y ≡ freed b n → w - less ≡ load y
-  freed-weight y e = omega (arith, freed-load, ap load e)
+  pub freed-left : (y : Board) → y ≡ freed b n → w - less ≡ load y
+  freed-left y e = omega (arith, freed-load, ap load e)
 
 module _ (y : Board) (o : ℕ) (x : Object) (h : o < 16) (z : length (y .objects) ≡ 16) (w : ℕ) (ew : w ≡ load y) where
   object-load : load (putObject y o x) + objectAt y o .«line_count» ≡ w + x .«line_count»
@@ -93,8 +93,8 @@ module _ (y : Board) (o : ℕ) (x : Object) (h : o < 16) (z : length (y .objects
     pub object-fits : old ≤ w + new
     object-fits = omega (arith, object-load)
 
-    pub object-weight : w + new - old ≡ load (putObject y o x)
-    object-weight = omega (arith, object-load)
+    pub object-changed : w + new - old ≡ load (putObject y o x)
+    object-changed = omega (arith, object-load)
 
 -- ---- the board without message n, as the code writes it
 pub freed-from : (b : Board) (n i occ : ℕ) (none : Entries) → i ≡ n → occ ≡ withoutBit (b .occupied) n → none ≡ noEntries

@@ -26,7 +26,7 @@ use Rattle.rules.specs.Board.{processAt, putProcess, send, kindLoad, load}
 use Rattle.rules.specs.Commands.{modeOf, requested, released, delivered, effect, answerTo, turn}
 use Rattle.rules.specs.Sheet.{byKind}
 use Rattle.processes.specs.Tests.{homeRequestTests, homeReleaseTests}
-use Rattle.engine.specs.Packed.{bookAnswer, topLoad, weighed, bookAfter, kindSent}
+use Rattle.engine.specs.Packed.{bookAnswer, topLoad, loadTested, bookAfter, kindSent}
 
 -- the answer's number and the board of a turn
 pub record Turns (b : Board) (c : Command) (n : ℕ) (y : Board) : Type 0 where
@@ -70,7 +70,7 @@ release-chain false false false false heavy = refl
 pub record HomeWays (b : Board) (c : Command) (a most w : ℕ) (new : Board) : Type 0 where
   pub refused : a ≢ 0 → Turns b c a b
   pub accepted : a ≡ 0 → Turns b c a new
-  pub light : a ≡ 0 → w ≤ most
+  pub fits : a ≡ 0 → w ≤ most
 
 -- ---- a command by its kind
 module _ (b : Board) (p o n : ℕ) where
@@ -124,13 +124,13 @@ module _ (b : Board) (p o n : ℕ) where
     load-accepts : atHome ≡ 0 → w ≤ topLoad k → Turns b (packed k) 0 (made k)
     load-accepts z l = rw (← home-makes k h) (accepts b (packed k) (loaded z ∙ rw (le-ltb (topLoad k) w l)))
 
-    pub home-ways : (a : ℕ) → a ≡ weighed atHome (topLoad k) w → HomeWays b (packed k) a (topLoad k) w (made k)
+    pub home-ways : (a : ℕ) → a ≡ loadTested atHome (topLoad k) w → HomeWays b (packed k) a (topLoad k) w (made k)
     home-ways a ea = elim (ℕ-discrete atHome 0) [
       | yes z ↦ elim (decLt (topLoad k) w) [
-        | yes l ↦ let e : a ≡ 10 = ea ∙ rw (z, lt-ltb (topLoad k) w l) in record { refused = λ _. rw e (load-refuses z l); accepted = λ f. absurd (omega (arith, e, f)); light = λ f. absurd (omega (arith, e, f)) }
-        | no n ↦ let l : w ≤ topLoad k = omega (arith, n) in let e : a ≡ 0 = ea ∙ rw (z, le-ltb (topLoad k) w l) in record { refused = λ f. absurd (f e); accepted = λ _. rw e (load-accepts z l); light = λ _. l }
+        | yes l ↦ let e : a ≡ 10 = ea ∙ rw (z, lt-ltb (topLoad k) w l) in record { refused = λ _. rw e (load-refuses z l); accepted = λ f. absurd (omega (arith, e, f)); fits = λ f. absurd (omega (arith, e, f)) }
+        | no n ↦ let l : w ≤ topLoad k = omega (arith, n) in let e : a ≡ 0 = ea ∙ rw (z, le-ltb (topLoad k) w l) in record { refused = λ f. absurd (f e); accepted = λ _. rw e (load-accepts z l); fits = λ _. l }
       ]
-      | no n ↦ let e : a ≡ atHome = ea ∙ rw (ne-eqb atHome 0 n) in record { refused = λ _. rw e (home-refuses n); accepted = λ f. absurd (n (sym e ∙ f)); light = λ f. absurd (n (sym e ∙ f)) }
+      | no n ↦ let e : a ≡ atHome = ea ∙ rw (ne-eqb atHome 0 n) in record { refused = λ _. rw e (home-refuses n); accepted = λ f. absurd (n (sym e ∙ f)); fits = λ f. absurd (n (sym e ∙ f)) }
     ]
 
     -- what the code writes and sends

@@ -80,40 +80,40 @@ past-last n = elim (decLt n 64) [
 ]
 
 -- ---- the loop
-pub record Working (lowest : Bool) (b₀ : Board) (s r₀ : List ℕ) (most i : ℕ) (b : Board) (r : List ℕ) (w : ℕ) : Type 0 where
+pub record Working (drains : Bool) (b₀ : Board) (s r₀ : List ℕ) (most i : ℕ) (b : Board) (r : List ℕ) (w : ℕ) : Type 0 where
   pub within : i ≤ most
   pub size : length r ≡ length r₀
-  pub reach : Reach lowest s most r₀
+  pub reach : Reach drains s most r₀
   pub ready : Ready b
-  pub weight : w ≡ load b
-  pub sheet : lowest ≡ false → (b ≡ boardAfter b₀ s i) × (r ≡ roomAfter b₀ s r₀ i)
-  pub drain : lowest ≡ true → Drains most b₀ i b
+  pub loaded : w ≡ load b
+  pub sheet : drains ≡ false → (b ≡ boardAfter b₀ s i) × (r ≡ roomAfter b₀ s r₀ i)
+  pub drain : drains ≡ true → Drains most b₀ i b
 
-pub working-starts : (lowest : Bool) (b : Board) (s r : List ℕ) (most w : ℕ) → Ready b → Reach lowest s most r → w ≡ load b → Working lowest b s r most 0 b r w
+pub working-starts : (drains : Bool) (b : Board) (s r : List ℕ) (most w : ℕ) → Ready b → Reach drains s most r → w ≡ load b → Working drains b s r most 0 b r w
 unfolding boardAfter roomAfter
-working-starts lowest b s r most w h g e = record { within = omega arith; size = refl; reach = g; ready = h; weight = e; sheet = λ _. (refl, refl); drain = λ _. drains-start most b }
+working-starts drains b s r most w h g e = record { within = omega arith; size = refl; reach = g; ready = h; loaded = e; sheet = λ _. (refl, refl); drain = λ _. drains-start most b }
 
 -- ---- a turn
-module _ (lowest : Bool) (b₀ : Board) (s r₀ : List ℕ) (most i : ℕ) (b : Board) (r : List ℕ) (w : ℕ) (v : Working lowest b₀ s r₀ most i b r w) (l : i < most) where
+module _ (drains : Bool) (b₀ : Board) (s r₀ : List ℕ) (most i : ℕ) (b : Board) (r : List ℕ) (w : ℕ) (v : Working drains b₀ s r₀ most i b r w) (l : i < most) where
   -- two bytes of the slice, and a byte of the room
-  pub bytes-there : lowest ≡ false → 2 * i + 1 < length s
+  pub bytes-there : drains ≡ false → 2 * i + 1 < length s
   bytes-there e = omega (arith, v .reach .sheet e .0)
 
-  pub place-there : (at : ℕ) → at ≡ pick lowest 0 i → at < length r
-  place-there at e = go lowest refl
+  pub place-there : (at : ℕ) → at ≡ pick drains 0 i → at < length r
+  place-there at e = go drains refl
     where
-      go : (t : Bool) → lowest ≡ t → at < length r
+      go : (t : Bool) → drains ≡ t → at < length r
       go true f = let z : at ≡ 0 = rw f at e in omega (arith, v .size, v .reach .drain f)
       go false f = let z : at ≡ i = rw f at e in omega (arith, v .size, v .reach .sheet f .1)
 
-  module _ (over : Bool) (eo : over ≡ (lowest && not (ltb (lowestTaken (b .occupied)) 64))) (no-end : over ≡ false)
-      (hi lo at a : ℕ) (eh : hi ≡ pick lowest (192 + lowestTaken (b .occupied) % 64) (getD s (2 * i) 0)) (hs : hi < 256) (el : lo ≡ pick lowest 0 (getD s (2 * i + 1) 0)) (ls : lo < 256) (ea : at ≡ pick lowest 0 i)
+  module _ (over : Bool) (eo : over ≡ (drains && not (ltb (lowestTaken (b .occupied)) 64))) (no-end : over ≡ false)
+      (hi lo at a : ℕ) (eh : hi ≡ pick drains (192 + lowestTaken (b .occupied) % 64) (getD s (2 * i) 0)) (hs : hi < 256) (el : lo ≡ pick drains 0 (getD s (2 * i + 1) 0)) (ls : lo < 256) (ea : at ≡ pick drains 0 i)
       (y : Board) (t : Turns b (ofBytes hi lo) a y) (x : Board) (u : ℕ) (m : Made x u y) where
     is-turn : x ≡ turn b (ofBytes hi lo) .board
     is-turn = m .board ∙ sym (t .board)
 
     -- a command of the slice
-    module _ (e : lowest ≡ false) where
+    module _ (e : drains ≡ false) where
       hi-is : hi ≡ getD s (2 * i) 0
       hi-is = rw e at eh
 
@@ -135,7 +135,7 @@ module _ (lowest : Bool) (b₀ : Board) (s r₀ : List ℕ) (most i : ℕ) (b : 
           )
 
     -- the lowest number in flight
-    module _ (e : lowest ≡ true) where
+    module _ (e : drains ≡ true) where
       flies : lowestTaken (b .occupied) < 64
       flies = ltb-true (lowestTaken (b .occupied)) 64 (not-false _ (sym (rw e at eo) ∙ no-end))
 
@@ -149,29 +149,29 @@ module _ (lowest : Bool) (b₀ : Board) (s r₀ : List ℕ) (most i : ℕ) (b : 
       drain-on : Drains most b₀ (i + 1) x
       drain-on = drains-on most b₀ i b (v .drain e) l flies x (is-turn ∙ ap (λ (c : Command). turn b c .board) delivery-is)
 
-    pub working-on : Working lowest b₀ s r₀ most (i + 1) x (set r at a) u
+    pub working-on : Working drains b₀ s r₀ most (i + 1) x (set r at a) u
     working-on = record {
       within = omega arith;
       size = length-set r at a ∙ v .size;
       reach = v .reach;
       ready = rw is-turn (turn-ready b (ofBytes hi lo) (v .ready));
-      weight = m .weight;
+      loaded = m .loaded;
       sheet = sheet-on;
       drain = drain-on;
     }
 
 -- ---- the end
-module _ (lowest : Bool) (b₀ : Board) (s r₀ : List ℕ) (most i : ℕ) (b : Board) (r : List ℕ) (w : ℕ) (v : Working lowest b₀ s r₀ most i b r w) where
-  drained : lowest ≡ true → (i ≡ most) ⊎ (64 ≤ lowestTaken (b .occupied)) → _≡_ {A = Ran} (record { answer = Done; commands = i; board = b }) (record { answer = Done; commands = draining most b₀ .made; board = draining most b₀ .board })
+module _ (drains : Bool) (b₀ : Board) (s r₀ : List ℕ) (most i : ℕ) (b : Board) (r : List ℕ) (w : ℕ) (v : Working drains b₀ s r₀ most i b r w) where
+  drained : drains ≡ true → (i ≡ most) ⊎ (64 ≤ lowestTaken (b .occupied)) → _≡_ {A = Ran} (record { answer = Done; commands = i; board = b }) (record { answer = Done; commands = draining most b₀ .made; board = draining most b₀ .board })
   drained e h = ap (λ (d : Drained). record { answer = Done; commands = d .made; board = d .board }) (drains-end most b₀ i b (v .drain e) (v .within) h)
 
-  pub all-done : i ≡ most → Worked lowest b₀ s most r₀ (record { answer = Done; commands = i; board = b }) r
+  pub all-done : i ≡ most → Worked drains b₀ s most r₀ (record { answer = Done; commands = i; board = b }) r
   all-done e = record { sheet = λ f. (ends e (v .sheet f .0), rw (← e) (v .sheet f .1)); drain = λ f. drained f (inl e) }
     where
       ends : i ≡ most → b ≡ boardAfter b₀ s i → _≡_ {A = Ran} (record { answer = Done; commands = i; board = b }) (record { answer = Done; commands = most; board = boardAfter b₀ s most })
       ends e g = rw (g, e)
 
-  pub none-left : (over : Bool) → over ≡ (lowest && not (ltb (lowestTaken (b .occupied)) 64)) → over ≡ true → Worked lowest b₀ s most r₀ (record { answer = Done; commands = i; board = b }) r
+  pub none-left : (over : Bool) → over ≡ (drains && not (ltb (lowestTaken (b .occupied)) 64)) → over ≡ true → Worked drains b₀ s most r₀ (record { answer = Done; commands = i; board = b }) r
   none-left over eo z = record {
     sheet = λ f. absurd (true-not-false (sym z ∙ rw f at eo));
     drain = λ f. drained f (inr (ltb-false (lowestTaken (b .occupied)) 64 (not-true _ (sym (rw f at eo) ∙ z))));

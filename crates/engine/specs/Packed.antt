@@ -19,12 +19,12 @@ abbrev pub topLoad : ℕ → ℕ
 topLoad kind = pick (eqb kind 2) 63 62
 
 -- the load is the last test, by the number of the answer before it
-abbrev pub weighed : ℕ → ℕ → ℕ → ℕ
-weighed answer most load = pick (eqb answer 0) (pick (ltb most load) 10 0) answer
+abbrev pub loadTested : ℕ → ℕ → ℕ → ℕ
+loadTested answer most load = pick (eqb answer 0) (pick (ltb most load) 10 0) answer
 
 -- the answer's number, from the command's two bytes, the counts, the book and the load
 abbrev pub homeAnswer : ℕ → ℕ → ℕ → ℕ → Process → ℕ → ℕ
-homeAnswer hi lo processes objects book load = weighed (bookAnswer (hi / 64) (hi / 4 % 16) (hi % 4 * 4 + lo / 64) processes objects book) (topLoad (hi / 64)) load
+homeAnswer hi lo processes objects book load = loadTested (bookAnswer (hi / 64) (hi / 4 % 16) (hi % 4 * 4 + lo / 64) processes objects book) (topLoad (hi / 64)) load
 
 -- the book of the process then
 unfoldable pub bookAfter : ℕ → Process → ℕ → Process

@@ -11,11 +11,11 @@ use Rattle.rules.specs.Commands.{draining}
 use Rattle.rules.specs.Sheet.{boardAfter, roomAfter}
 
 -- the slice holds so many commands and the room has a byte for each; a drain writes into the room's first byte
-pub record Reach (lowest : Bool) (s : List ℕ) (most : ℕ) (room : List ℕ) : Type 0 where
-  pub sheet : lowest ≡ false → (most ≡ length s / 2) × (most ≤ length room)
-  pub drain : lowest ≡ true → 0 < length room
+pub record Reach (drains : Bool) (s : List ℕ) (most : ℕ) (room : List ℕ) : Type 0 where
+  pub sheet : drains ≡ false → (most ≡ length s / 2) × (most ≤ length room)
+  pub drain : drains ≡ true → 0 < length room
 
 -- what is handed back, and the room then
-pub record Worked (lowest : Bool) (b : Board) (s : List ℕ) (most : ℕ) (room : List ℕ) (r : Ran) (after : List ℕ) : Type 0 where
-  pub sheet : lowest ≡ false → (r ≡ record { answer = Done; commands = most; board = boardAfter b s most }) × (after ≡ roomAfter b s room most)
-  pub drain : lowest ≡ true → r ≡ record { answer = Done; commands = draining most b .made; board = draining most b .board }
+pub record Worked (drains : Bool) (b : Board) (s : List ℕ) (most : ℕ) (room : List ℕ) (r : Ran) (after : List ℕ) : Type 0 where
+  pub sheet : drains ≡ false → (r ≡ record { answer = Done; commands = most; board = boardAfter b s most }) × (after ≡ roomAfter b s room most)
+  pub drain : drains ≡ true → r ≡ record { answer = Done; commands = draining most b .made; board = draining most b .board }

@@ -16,28 +16,35 @@ mod grants;
 mod next;
 mod packed;
 
-// Each command of the slice, two bytes a command, on the board; each answer's number into the room. Or, with `lowest`, the lowest number
-// in flight is delivered again and again, until none is left. At most so many turns. The caller says the load that the board starts with.
-pub fn turns(start: Board, s: &[u8], lowest: bool, most: usize, room: &mut [u8], load: usize) -> Ran
-    requires { ⌜ Ready start × Reach lowest (now s) most (now room) × (load ≡ Boards.load start) ⌝ }
-    ensures { λ r. ⌜ Worked lowest start (now (s .entry)) most (now (room .entry)) r (now (room .exit)) ⌝ }
+// Each command of the slice, two bytes a command, on the board; each answer's number into the room. Or, where it `drains`, the lowest
+// number in flight is delivered again and again, until none is left. At most so many turns. The caller says the load at the start.
+pub fn turns(
+    start: Board,
+    s: &[u8],
+    drains: bool,
+    most: usize,
+    room: &mut [u8],
+    loaded: usize,
+) -> Ran
+    requires { ⌜ Ready start × Reach drains (now s) most (now room) × (loaded ≡ Boards.load start) ⌝ }
+    ensures { λ r. ⌜ Worked drains start (now (s .entry)) most (now (room .entry)) r (now (room .exit)) ⌝ }
 {
     let mut b = start;
     let free = Flight { kind: Kind::Free };
     let none = values::message::no_entries();
-    let mut weight = load;
+    let mut load = loaded;
     let mut i: usize = 0;
     while i < most {
-        if crate::next::is_over(lowest, b.occupied) {
+        if crate::next::is_over(drains, b.occupied) {
             break;
         }
-        let hi = crate::next::first_byte(s, i, lowest, b.occupied);
-        let lo = crate::next::second_byte(s, i, lowest);
-        let at_room = crate::next::answer_place(i, lowest);
+        let hi = crate::next::first_byte(s, i, drains, b.occupied);
+        let lo = crate::next::second_byte(s, i, drains);
+        let at_room = crate::next::answer_place(i, drains);
         if crate::packed::is_at_home(hi) {
             let pi = wide((hi / 4) % 16);
             let book = b.processes[pi];
-            let answer = home_answer(hi, lo, b.process_count, b.object_count, book, weight);
+            let answer = home_answer(hi, lo, b.process_count, b.object_count, book, load);
             room[at_room] = answer;
             i += 1;
             if answer != 0 {
@@ -47,7 +54,7 @@ pub fn turns(start: Board, s: &[u8], lowest: bool, most: usize, room: &mut [u8],
             b.processes[pi] = process;
             let to = values::bits::lowest_free(b.occupied);
             let out = crate::packed::kind_sent(hi, lo);
-            weight += values::message::kind_load(out);
+            load += values::message::kind_load(out);
             let flight = Flight { kind: out };
             b.flights[to] = flight;
             b.lists[to] = none;
@@ -65,7 +72,7 @@ pub fn turns(start: Board, s: &[u8], lowest: bool, most: usize, room: &mut [u8],
         let arrived = b.flights[at];
         let list = b.lists[at];
         let sort = arrived.kind;
-        weight -= values::message::kind_load(sort);
+        load -= values::message::kind_load(sort);
         b.flights[at] = free;
         b.lists[at] = none;
         b.occupied = values::bits::without(b.occupied, num);
@@ -78,7 +85,7 @@ pub fn turns(start: Board, s: &[u8], lowest: bool, most: usize, room: &mut [u8],
                 if objects::is_welcome(old, q, mode) {
                     let held = objects::hold(old, q, mode);
                     b.objects[xi] = held;
-                    weight += 1;
+                    load += 1;
                     let flight = Flight {
                         kind: Kind::Grant(q, x, mode),
                     };
@@ -89,14 +96,14 @@ pub fn turns(start: Board, s: &[u8], lowest: bool, most: usize, room: &mut [u8],
                 }
                 let joined = objects::join(old, q, mode);
                 b.objects[xi] = joined;
-                weight = weight + wide(joined.line_count) - wide(old.line_count);
+                load = load + wide(joined.line_count) - wide(old.line_count);
                 let entries = lists::started(old, q, mode, old.line_count);
                 let out = lists::asks_next(entries.next, entries.count);
                 let more = values::message::kind_load(out);
                 if more == 0 {
                     continue;
                 }
-                weight += more;
+                load += more;
                 let flight = Flight { kind: out };
                 b.flights[to] = flight;
                 b.lists[to] = entries;
@@ -127,7 +134,7 @@ pub fn turns(start: Board, s: &[u8], lowest: bool, most: usize, room: &mut [u8],
                     continue;
                 }
                 b = crate::grants::grant_rest(b, struck, x, granted);
-                weight = counts::load(b);
+                load = sums::load(b);
             }
             Kind::ListToHome => {
                 let qi = wide(crate::packed::asked_of(list));
@@ -139,7 +146,7 @@ pub fn turns(start: Board, s: &[u8], lowest: bool, most: usize, room: &mut [u8],
                 if more == 0 {
                     continue;
                 }
-                weight += more;
+                load += more;
                 let mut entries = list;
                 entries.next = onward.next;
                 let flight = Flight { kind: out };
@@ -149,7 +156,7 @@ pub fn turns(start: Board, s: &[u8], lowest: bool, most: usize, room: &mut [u8],
             }
             Kind::ListToObject(x) => {
                 let book = b.objects[wide(x)];
-                let place = lists::place_in(book, crate::packed::asked_of(list));
+                let place = objects::place_in(book, crate::packed::asked_of(list));
                 if lists::closes(list, book, place) {
                     let si = wide(crate::packed::starter_of(list));
                     let ring = lists::ring::along_leads(list, wide(list.next));
@@ -163,7 +170,7 @@ pub fn turns(start: Board, s: &[u8], lowest: bool, most: usize, room: &mut [u8],
                 if more == 0 {
                     continue;
                 }
-                weight += more;
+                load += more;
                 let flight = Flight { kind: out };
                 b.flights[to] = flight;
                 b.lists[to] = entries;

@@ -62,8 +62,8 @@ fn top_load(kind: u8) -> usize
 }
 
 // The answer to a request or a release: the load is the last test.
-pub fn home_answer(hi: u8, lo: u8, processes: u8, objects: u8, book: Process, weight: usize) -> u8
-    ensures { λ r. ⌜ r ≡ homeAnswer hi lo processes objects book weight ⌝ }
+pub fn home_answer(hi: u8, lo: u8, processes: u8, objects: u8, book: Process, load: usize) -> u8
+    ensures { λ r. ⌜ r ≡ homeAnswer hi lo processes objects book load ⌝ }
 {
     let kind = hi / 64;
     let o = object_number(hi, lo);
@@ -71,7 +71,7 @@ pub fn home_answer(hi: u8, lo: u8, processes: u8, objects: u8, book: Process, we
     if answer != 0 {
         return answer;
     }
-    if top_load(kind) < weight {
+    if top_load(kind) < load {
         return 10;
     }
     0

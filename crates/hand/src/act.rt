@@ -90,7 +90,7 @@ fn tell(before: Desk, after: Desk, freed: usize) {
     crate::message::tell_each(b"  sent message ", after, set);
     crate::show::new_rings(old, new);
     text_if(
-        (3 < arrived.form) & (set == 0) & (counts::tally(new) == counts::tally(old)),
+        (3 < arrived.form) & (set == 0) & (sums::tally(new) == sums::tally(old)),
         b"  the list ends without a new ring\n",
     );
 }

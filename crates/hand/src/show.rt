@@ -150,7 +150,7 @@ pub fn rings(b: Board) {
         count: 0,
     };
     text(b"  rings recorded: ");
-    crate::put::number(counts::tally(b));
+    crate::put::number(sums::tally(b));
     text(b"\n");
     rings_since([none; 16], b"    ring ", now);
 }
@@ -163,6 +163,6 @@ pub fn board(desk: Desk) {
     crate::message::tell_each(b"  message ", desk, b.occupied);
     rings(b);
     text(b"  load ");
-    crate::put::number(counts::load(b));
+    crate::put::number(sums::load(b));
     text(b" of at most 64\n");
 }

@@ -22,7 +22,7 @@ fn sheet(name: &[u8], way: Way) {
     libc::close(fd);
     match way {
         Way::AtOnce => report::show(&bytes, whole),
-        Way::InTurns => turns::show(text::start(&bytes, sheet::kept(whole))),
+        Way::InTurns => steps::show(text::start(&bytes, sheet::kept(whole))),
     }
 }
 

@@ -15,7 +15,6 @@ use Rattle.lists.specs.Onwards as Onwards
 use Rattle.lists.proofs.asks_next as asks-next
 use Rattle.lists.proofs.onward as onward
 use Rattle.lists.proofs.started as started
-use Rattle.lists.proofs.place_in as place-in
 use Rattle.lists.proofs.closes as closes
 use Rattle.lists.proofs.grown as grown
 use Rattle.lists.proofs.ring.along_leads as along-leads
@@ -30,9 +29,6 @@ module _ {M : Type 1} (𝓤 : URA M) (H : Heap 𝓤) (A : Atoms 𝓤) (mem : Mem
 
   pub started-determined : Determined started.ended (started.clauses 𝓤 H A mem run) (λ κs r e. r)
   started-determined = by-equation (λ κs a. Lists.addAll (Lists.starter (a .1 .0)) 0 (Book.waitedFor (a .0) (a .1 .0) (a .1 .1 .0) (a .1 .1 .1 .0))) (λ κs a g r e. refl)
-
-  pub place-in-determined : Determined place-in.ended (place-in.clauses 𝓤 H A mem run) (λ κs r e. r)
-  place-in-determined = by-equation (λ κs a. Book.placeIn (a .0) (a .1 .0)) (λ κs a g r e. refl)
 
   pub closes-determined : Determined closes.ended (closes.clauses 𝓤 H A mem run) (λ κs r e. r)
   closes-determined = by-equation (λ κs a. Onwards.closes (a .0) (a .1 .0) (a .1 .1 .0)) (λ κs a g r e. refl)

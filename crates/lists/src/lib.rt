@@ -73,24 +73,6 @@ pub fn started(o: Object, p: u8, m: Mode, k: u8) -> Entries
     gather::add_unmarked(first, values::bits::with(0, p), o, p, m, k, 0)
 }
 
-// The place of p in the line; the line's length where it is not there.
-pub fn place_in(o: Object, p: u8) -> u8
-    requires { ⌜ LineRanged o ⌝ }
-    ensures { λ r. ⌜ r ≡ Book.placeIn o p ⌝ }
-{
-    let n = o.line_count;
-    let line = o.line;
-    let mut k: u8 = 0;
-    while k < n {
-        let i = values::bits::wide(k);
-        if line[i] == p {
-            return k;
-        }
-        k += 1;
-    }
-    n
-}
-
 // Process s stands ahead of place k in conflict with p in the mode.
 fn is_ahead(o: Object, p: u8, m: Mode, k: u8, s: u8) -> bool
     requires { ⌜ LineRanged o × (k ≤ 16) ⌝ }

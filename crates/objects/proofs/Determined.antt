@@ -19,6 +19,7 @@ use Rattle.objects.specs.Sets.{SetOf}
 use Rattle.objects.proofs.rivals as rivals
 use Rattle.objects.proofs.is_clear as is-clear
 use Rattle.objects.proofs.mode_at as mode-at
+use Rattle.objects.proofs.place_in as place-in
 use Rattle.objects.proofs.bars as bars
 use Rattle.objects.proofs.hold as hold
 use Rattle.objects.proofs.strike as strike
@@ -38,6 +39,9 @@ module _ {M : Type 1} (𝓤 : URA M) (H : Heap 𝓤) (A : Atoms 𝓤) (mem : Mem
 
   pub mode-at-determined : Determined mode-at.ended (mode-at.clauses 𝓤 H A mem run) (λ κs r e. r)
   mode-at-determined = by-equation (λ κs a. Book.modeAt (a .0) (a .1 .0)) (λ κs a g r e. refl)
+
+  pub place-in-determined : Determined place-in.ended (place-in.clauses 𝓤 H A mem run) (λ κs r e. r)
+  place-in-determined = by-equation (λ κs a. Book.placeIn (a .0) (a .1 .0)) (λ κs a g r e. refl)
 
   pub bars-determined : Determined bars.ended (bars.clauses 𝓤 H A mem run) (λ κs r e. r)
   bars-determined = by-equation (λ κs a. not (eqb (a .0) (a .1 .1 .0)) && Book.conflict (a .1 .1 .1 .0) (Book.modeIf (Bits.taken (a .1 .0) (a .1 .1 .1 .1 .0)))) (λ κs a g r e. refl)

@@ -40,6 +40,24 @@ pub fn mode_at(o: Object, k: u8) -> Mode
     values::mode::mode_if(values::bits::has(o.line_exclusive, k))
 }
 
+// The place of p in the line; the line's length where it is not there.
+pub fn place_in(o: Object, p: u8) -> u8
+    requires { ⌜ LineRanged o ⌝ }
+    ensures { λ r. ⌜ r ≡ Book.placeIn o p ⌝ }
+{
+    let n = o.line_count;
+    let line = o.line;
+    let mut k: u8 = 0;
+    while k < n {
+        let i = values::bits::wide(k);
+        if line[i] == p {
+            return k;
+        }
+        k += 1;
+    }
+    n
+}
+
 // Process q, at place i of a line whose exclusive places are given, is in the way of p: it is another, and the modes conflict.
 pub fn bars(q: u8, exclusive: u64, p: u8, m: Mode, i: u8) -> bool
     requires { ⌜ i < 16 ⌝ }

@@ -26,7 +26,7 @@ use Rattle.rules.proofs.Bits.{taken-with, taken-zero}
 use Rattle.rules.proofs.Tables.{same-test, both-left, both-right, place-first, all-at, all-from, all-ext, count-zero, count-one, by-test, not-passed}
 use Rattle.shape.specs.declared.stand.Standing.{Standing}
 use Rattle.shape.specs.Stand.{Counted, RowFits, AskerFits, Placed, nobody, noted, notedRow, notedKind, notedRequests, notedLines}
-use Rattle.counts.proofs.Sums.{read-at}
+use Rattle.sums.proofs.Sums.{read-at}
 use Rattle.shape.proofs.Tests.{row-below, up-to-le}
 
 -- ---- what has been noted, of processes that stand so many times each

@@ -19,7 +19,7 @@ use Rattle.rules.specs.Bits.{taken}
 use Rattle.rules.specs.Shape.{upTo, rowFits, same, kindFits, messageFits}
 use Rattle.rules.specs.Lists.{noEntries}
 use Rattle.rules.specs.Board.{noFlight, isMessage}
-use Rattle.counts.proofs.Sums.{read-at}
+use Rattle.sums.proofs.Sums.{read-at}
 use Rattle.shape.specs.Stand.{RowFits}
 use Rattle.rules.proofs.Bits.{taken-and, taken-zero, empty-from}
 use Rattle.rules.proofs.Tables.{same-test, both, all-at, all-from, all-fail}

@@ -31,5 +31,5 @@ pub fn in_shape(b: Board) -> bool
     if !stand::stand_once(b) {
         return false;
     }
-    counts::load(b) <= 64
+    sums::load(b) <= 64
 }

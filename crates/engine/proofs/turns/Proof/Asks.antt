@@ -15,7 +15,7 @@ use Rattle.engine.specs.Packed.{topLoad}
 use Rattle.engine.proofs.Sends.{sent-here}
 use Rattle.engine.proofs.Turn.{HomeWays, made, home-ways, makes, sent-counts, top-most}
 use Rattle.engine.proofs.turns.Tie as tie
-use Rattle.engine.proofs.turns.Proof.Loop.{Inv-loop, μ-loop, Turn, boardNow, weightNow, hiOf, loOf, noneNow, none-now, going, ready, weight-most, less, again, place-small}
+use Rattle.engine.proofs.turns.Proof.Loop.{Inv-loop, μ-loop, Turn, boardNow, loadNow, hiOf, loOf, noneNow, none-now, going, ready, loadNow-most, less, again, place-small}
 
 pub is-at-home-requires : tie.Need-is-at-home-requires Inv-loop μ-loop
 is-at-home-requires c κs = search needs
@@ -60,8 +60,8 @@ book-is a = ap (λ (i : ℕ). getD (boardNow (turnOf a) .processes) i noProcess)
 abbrev madeOf : Asked → Board
 madeOf a = made (boardNow (turnOf a)) (processOf a) (objectOf a) (hiOf (turnOf a) % 64) (kindOf a)
 
-ways : (a : Asked) → HomeWays (boardNow (turnOf a)) (ofBytes (hiOf (turnOf a)) (loOf (turnOf a))) (a .home-answer .result) (topLoad (kindOf a)) (weightNow (turnOf a)) (madeOf a)
-ways a = home-ways (boardNow (turnOf a)) (processOf a) (objectOf a) (hiOf (turnOf a) % 64) (kindOf a) (at-home a) (bookOf a) (book-is a) (weightNow (turnOf a)) (going (turnOf a) .weight) (a .home-answer .result) (a .home-answer .ensures)
+ways : (a : Asked) → HomeWays (boardNow (turnOf a)) (ofBytes (hiOf (turnOf a)) (loOf (turnOf a))) (a .home-answer .result) (topLoad (kindOf a)) (loadNow (turnOf a)) (madeOf a)
+ways a = home-ways (boardNow (turnOf a)) (processOf a) (objectOf a) (hiOf (turnOf a) % 64) (kindOf a) (at-home a) (bookOf a) (book-is a) (loadNow (turnOf a)) (going (turnOf a) .loaded) (a .home-answer .result) (a .home-answer .ensures)
 
 pub slice-write-room : tie.Need-slice-write-room Inv-loop μ-loop
 slice-write-room c = omega (arith, place-small (turnOf c))
@@ -77,7 +77,7 @@ pub loop-again : tie.Need-loop-again Inv-loop μ-loop
 loop-again c =
     let a = c .before in
     let b = boardNow (turnOf a) in
-    again (turnOf a) (a .home-answer .result) b (ways a .refused (c .if3 .taken)) b (weightNow (turnOf a)) (record { board = refl; weight = going (turnOf a) .weight })
+    again (turnOf a) (a .home-answer .result) b (ways a .refused (c .if3 .taken)) b (loadNow (turnOf a)) (record { board = refl; loaded = going (turnOf a) .loaded })
 
 -- ---- made: the book is written, and the message takes a free number
 abbrev Sent : Type 0
@@ -87,7 +87,7 @@ to-small : (d : Sent) → d .lowest-free .result < 64
 to-small d =
     let a = d .before .before .before in
     let e = turnOf a in
-    omega (arith, d .lowest-free .ensures .0, room-below (boardNow e) (ready e .matched) (omega (arith, going e .weight, ways a .light (d .before .before .if3 .left), top-most (hiOf e / 64))))
+    omega (arith, d .lowest-free .ensures .0, room-below (boardNow e) (ready e .matched) (omega (arith, going e .loaded, ways a .fits (d .before .before .if3 .left), top-most (hiOf e / 64))))
 
 pub book-after-requires : tie.Need-book-after-requires Inv-loop μ-loop
 book-after-requires c κs = search needs
@@ -107,8 +107,8 @@ kind-sent-requires c κs = search needs
 pub kind-load-requires : tie.Need-kind-load-requires Inv-loop μ-loop
 kind-load-requires c κs = search needs
 
-pub add-weight : tie.Need-add-weight Inv-loop μ-loop
-add-weight c = omega (arith, weight-most (turnOf (c .before .before .before .before .before)), c .kind-load .ensures .1)
+pub add-load : tie.Need-add-load Inv-loop μ-loop
+add-load c = omega (arith, loadNow-most (turnOf (c .before .before .before .before .before)), c .kind-load .ensures .1)
 
 pub mul-flight : tie.Need-mul-flight Inv-loop μ-loop
 mul-flight c = search needs
@@ -139,7 +139,7 @@ loop-again-2 c =
     let y = putProcess b (a .before .before .wide .result) (d .before .book-after .result) in
     let m : Message = record { kind = c .before .before .kind-sent .result; list = noneNow (turnOf a) } in
     again (turnOf a) (a .home-answer .result) (madeOf a) (ways a .accepted (d .before .before .if3 .left)) _ _
-    (sent-here y (weightNow (turnOf a)) (going (turnOf a) .weight ∙ sym (load-process b (a .before .before .wide .result) (d .before .book-after .result))) m (c .before .kind-load .result) (c .before .kind-load .ensures .0) (madeOf a)
-    (makes b (processOf a) (objectOf a) (hiOf (turnOf a) % 64) (kindOf a) (at-home a) (bookOf a) (book-is a) (weightNow (turnOf a)) (going (turnOf a) .weight) (a .before .before .wide .result) (d .before .book-after .result) (c .before .before .kind-sent .result) (noneNow (turnOf a)) (a .before .before .wide .ensures .0) (d .before .book-after .ensures) (c .before .before .kind-sent .ensures) (none-now (turnOf a)))
+    (sent-here y (loadNow (turnOf a)) (going (turnOf a) .loaded ∙ sym (load-process b (a .before .before .wide .result) (d .before .book-after .result))) m (c .before .kind-load .result) (c .before .kind-load .ensures .0) (madeOf a)
+    (makes b (processOf a) (objectOf a) (hiOf (turnOf a) % 64) (kindOf a) (at-home a) (bookOf a) (book-is a) (loadNow (turnOf a)) (going (turnOf a) .loaded) (a .before .before .wide .result) (d .before .book-after .result) (c .before .before .kind-sent .result) (noneNow (turnOf a)) (a .before .before .wide .ensures .0) (d .before .book-after .ensures) (c .before .before .kind-sent .ensures) (none-now (turnOf a)))
     (ready (turnOf a) .ranged .flights) (ready (turnOf a) .matched) (d .lowest-free .result) (c .with .result) (d .lowest-free .ensures .0) (c .with .ensures) (to-small d)
     (λ z. sent-counts (kindOf a) (processOf a) (objectOf a) (sym (ap kindLoad (c .before .before .kind-sent .ensures)) ∙ sym (c .before .kind-load .ensures .0) ∙ z)))

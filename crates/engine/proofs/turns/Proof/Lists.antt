@@ -19,7 +19,7 @@ use Rattle.engine.proofs.Sends.{read-at, sent-none, sent-here}
 use Rattle.engine.proofs.Arrivals.{list-at-home, no-ring, ring-found}
 use Rattle.engine.proofs.turns.Tie as tie
 use Rattle.engine.proofs.turns.Proof.Loop.{Inv-loop, μ-loop, ready, less}
-use Rattle.engine.proofs.turns.Proof.Takes.{Took, turnTook, before, numOf, toOf, listOf, freedNow, weightLeft, kind-is, kind-ranged, list-is, list-ranged, freed-is, freed-matched, freed-flights, weight-left, left-most, to-small, ends}
+use Rattle.engine.proofs.turns.Proof.Takes.{Took, turnTook, before, numOf, toOf, listOf, freedNow, loadLeft, kind-is, kind-ranged, list-is, list-ranged, freed-is, freed-matched, freed-flights, load-left, left-most, to-small, ends}
 
 -- ---- at the home of its next entry
 pub enum-told-2 : tie.Need-enum-told-2 Inv-loop μ-loop
@@ -64,11 +64,11 @@ pub loop-again-12 : tie.Need-loop-again-12 Inv-loop μ-loop
 loop-again-12 c =
     let d = c .before .before in
     let t = c .before .before .before .before .before .before .before .before in
-    ends t (freedNow t) (weightLeft t)
-    (sent-none (freedNow t) (weightLeft t) (weight-left t) (sentHome d) (c .before .kind-load4 .result) (c .before .kind-load4 .ensures .0) (delivered (before t) (numOf t)) (home-arrives d) (c .if9 .taken))
+    ends t (freedNow t) (loadLeft t)
+    (sent-none (freedNow t) (loadLeft t) (load-left t) (sentHome d) (c .before .kind-load4 .result) (c .before .kind-load4 .ensures .0) (delivered (before t) (numOf t)) (home-arrives d) (c .if9 .taken))
 
-pub add-weight-5 : tie.Need-add-weight-5 Inv-loop μ-loop
-add-weight-5 c = omega (arith, left-most (c .before .before .before .before .before .before .before .before), c .before .kind-load4 .ensures .1)
+pub add-load-5 : tie.Need-add-load-5 Inv-loop μ-loop
+add-load-5 c = omega (arith, left-most (c .before .before .before .before .before .before .before .before), c .before .kind-load4 .ensures .1)
 
 pub mul-flight-5 : tie.Need-mul-flight-5 Inv-loop μ-loop
 mul-flight-5 c = search needs
@@ -96,7 +96,7 @@ loop-again-13 c =
     let d = c .before .before .before in
     let t = c .before .before .before .before .before .before .before .before .before in
     ends t _ _
-    (sent-here (freedNow t) (weightLeft t) (weight-left t) (sentHome d) (c .before .before .kind-load4 .result) (c .before .before .kind-load4 .ensures .0) (delivered (before t) (numOf t)) (home-arrives d)
+    (sent-here (freedNow t) (loadLeft t) (load-left t) (sentHome d) (c .before .before .kind-load4 .result) (c .before .before .kind-load4 .ensures .0) (delivered (before t) (numOf t)) (home-arrives d)
     (freed-flights t) (freed-matched t) (toOf t) (c .with5 .result) (t .lowest-free2 .ensures .0) (c .with5 .ensures) (to-small t) (c .before .if9 .left))
 
 -- ---- at an object
@@ -197,13 +197,13 @@ loop-again-14 c =
     let f = c .before .before .before .before in
     let s = f .wide10 in
     let l = listOf t in
-    ends t (putRing (freedNow t) (s .result) (c .keeping .result)) (weightLeft t)
+    ends t (putRing (freedNow t) (s .result) (c .keeping .result)) (loadLeft t)
     (record {
       board = ring-found (before t) (numOf t) (freedNow t) (freed-is t) l (list-is t) (h .before .before .before .sort4 .given .0 .0) (kind-is t _ (h .before .before .before .sort4 .given .1)) (oldOf h) (old-is h) (d .before .place-in .result) (place-is d) (d .closes .result) (d .closes .ensures) (c .before .before .before .before .before .before .if10 .taken)
           (s .result) (c .before .before .along-leads .result) (c .keeping .result) (getD (before t .rings) (s .result) (record { processes = []; count = 0 })) (s .ensures .0 ∙ f .before .starter-of .ensures .0)
           (c .before .before .along-leads .ensures ∙ ap (λ (k : ℕ). ringOf (alongLeads k l k)) (c .before .before .before .wide11 .ensures .0))
           (read-at (before t .rings) (s .result) (s .result) _ noRing refl (omega (arith, ready (turnTook t) .ranged .rings, starter-small f))) (c .keeping .ensures);
-      weight = weight-left t ∙ sym (load-ring (freedNow t) (s .result) (c .keeping .result));
+      loaded = load-left t ∙ sym (load-ring (freedNow t) (s .result) (c .keeping .result));
     })
 
 -- ---- no ring: the list goes on or ends
@@ -240,11 +240,11 @@ pub loop-again-15 : tie.Need-loop-again-15 Inv-loop μ-loop
 loop-again-15 c =
     let a = c .before .before in
     let t = c .before .before .before .before .before .before .before .before .before .before .before .before .before in
-    ends t (freedNow t) (weightLeft t)
-    (sent-none (freedNow t) (weightLeft t) (weight-left t) (sent a) (c .before .kind-load5 .result) (c .before .kind-load5 .ensures .0) (delivered (before t) (numOf t)) (object-arrives a) (c .if11 .taken))
+    ends t (freedNow t) (loadLeft t)
+    (sent-none (freedNow t) (loadLeft t) (load-left t) (sent a) (c .before .kind-load5 .result) (c .before .kind-load5 .ensures .0) (delivered (before t) (numOf t)) (object-arrives a) (c .if11 .taken))
 
-pub add-weight-6 : tie.Need-add-weight-6 Inv-loop μ-loop
-add-weight-6 c = omega (arith, left-most (c .before .before .before .before .before .before .before .before .before .before .before .before .before), c .before .kind-load5 .ensures .1)
+pub add-load-6 : tie.Need-add-load-6 Inv-loop μ-loop
+add-load-6 c = omega (arith, left-most (c .before .before .before .before .before .before .before .before .before .before .before .before .before), c .before .kind-load5 .ensures .1)
 
 pub mul-flight-6 : tie.Need-mul-flight-6 Inv-loop μ-loop
 mul-flight-6 c = search needs
@@ -272,5 +272,5 @@ loop-again-16 c =
     let a = c .before .before .before in
     let t = c .before .before .before .before .before .before .before .before .before .before .before .before .before .before in
     ends t _ _
-    (sent-here (freedNow t) (weightLeft t) (weight-left t) (sent a) (c .before .before .kind-load5 .result) (c .before .before .kind-load5 .ensures .0) (delivered (before t) (numOf t)) (object-arrives a)
+    (sent-here (freedNow t) (loadLeft t) (load-left t) (sent a) (c .before .before .kind-load5 .result) (c .before .before .kind-load5 .ensures .0) (delivered (before t) (numOf t)) (object-arrives a)
     (freed-flights t) (freed-matched t) (toOf t) (c .with6 .result) (t .lowest-free2 .ensures .0) (c .with6 .ensures) (to-small t) (c .before .if11 .left))

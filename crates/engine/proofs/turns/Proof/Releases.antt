@@ -20,7 +20,7 @@ use Rattle.engine.proofs.Granting.{one-let-in}
 use Rattle.engine.proofs.Releases.{line-is, struck-line, none-granted, LetIn, first-granted}
 use Rattle.engine.proofs.turns.Tie as tie
 use Rattle.engine.proofs.turns.Proof.Loop.{Inv-loop, μ-loop, ready, less}
-use Rattle.engine.proofs.turns.Proof.Takes.{Took, turnTook, before, numOf, toOf, noneOf, none-is, freedNow, weightLeft, kind-is, kind-ranged, freed-is, freed-matched, freed-flights, weight-left, to-small, ends}
+use Rattle.engine.proofs.turns.Proof.Takes.{Took, turnTook, before, numOf, toOf, noneOf, none-is, freedNow, loadLeft, kind-is, kind-ranged, freed-is, freed-matched, freed-flights, load-left, to-small, ends}
 
 pub enum-known-sort-3 : tie.Need-enum-known-sort-3 Inv-loop μ-loop
 enum-known-sort-3 c = search needs
@@ -94,8 +94,8 @@ pub loop-again-9 : tie.Need-loop-again-9 Inv-loop μ-loop
 loop-again-9 c =
     let d = c .before .before in
     let t = c .before .before .before .before .before .before .before .before in
-    ends t _ (weightLeft t)
-    (none-granted (freedNow t) (weightLeft t) (weight-left t) (d .before .before .wide7 .result) (index-small d) (ready (turnTook t) .ranged .objects) (d .strike .result) (same-count d) (delivered (before t) (numOf t)) (arrives d) (sym (c .before .front-goes .ensures) ∙ not-true _ (c .if7 .taken)))
+    ends t _ (loadLeft t)
+    (none-granted (freedNow t) (loadLeft t) (load-left t) (d .before .before .wide7 .result) (index-small d) (ready (turnTook t) .ranged .objects) (d .strike .result) (same-count d) (delivered (before t) (numOf t)) (arrives d) (sym (c .before .front-goes .ensures) ∙ not-true _ (c .if7 .taken)))
 
 -- ---- all go in who can
 pub let-in-requires : tie.Need-let-in-requires Inv-loop μ-loop
@@ -149,11 +149,11 @@ granted g =
     let y = freedNow t in
     with y (y .processes) (set (y .objects) (g .before .before .before .before .before .before .before .wide7 .result) (g .before .before .let-in .result)) (g .with4 .result) (set (y .flights) (toOf t) (record { kind = g .before .grant-at .result })) (set (y .lists) (toOf t) (noneOf t)) (y .rings)
 
-first : (g : First) → LetIn (granted g) (weightLeft (tookFirst g)) (g .before .before .before .before .before .before .before .before .before .sort3 .given .0 .1 .0) (g .before .before .before .before .before .strike .result) (g .before .before .before .before .before .strike .result .«line_count» - g .before .before .let-in .result .«line_count») (delivered (before (tookFirst g)) (numOf (tookFirst g)))
+first : (g : First) → LetIn (granted g) (loadLeft (tookFirst g)) (g .before .before .before .before .before .before .before .before .before .sort3 .given .0 .1 .0) (g .before .before .before .before .before .strike .result) (g .before .before .before .before .before .strike .result .«line_count» - g .before .before .let-in .result .«line_count») (delivered (before (tookFirst g)) (numOf (tookFirst g)))
 first g =
     let d = g .before .before .before .before .before in
     let t = g .before .before .before .before .before .before .before .before .before .before .before in
-    first-granted (freedNow t) (weightLeft t) (weight-left t) (d .before .before .wide7 .result) (index-small d) (ready (turnTook t) .ranged .objects) (d .strike .result) (same-count d) (delivered (before t) (numOf t)) (arrives d)
+    first-granted (freedNow t) (loadLeft t) (load-left t) (d .before .before .wide7 .result) (index-small d) (ready (turnTook t) .ranged .objects) (d .strike .result) (same-count d) (delivered (before t) (numOf t)) (arrives d)
     (goes g) (d .before .before .before .before .sort3 .given .0 .1 .0) (d .before .before .wide7 .ensures .0) (g .before .before .let-in .result) (g .before .before .let-in .ensures) (g .before .grant-at .result) (g .before .grant-at .ensures) (noneOf t) (none-is t)
     (freed-flights t) (freed-matched t) (toOf t) (g .with4 .result) (t .lowest-free2 .ensures .0) (g .with4 .ensures) (to-small t)
 
@@ -165,7 +165,7 @@ pub loop-again-10 : tie.Need-loop-again-10 Inv-loop μ-loop
 loop-again-10 c =
     let g = c .before .before .before in
     let t = tookFirst g in
-    ends t _ (weightLeft t) (first g .ends (c .if8 .taken))
+    ends t _ (loadLeft t) (first g .ends (c .if8 .taken))
 
 -- the others are sent theirs
 pub grant-rest-requires : tie.Need-grant-rest-requires Inv-loop μ-loop

@@ -13,11 +13,11 @@ use Rattle.rules.specs.declared.Message.{Message}
 use Rattle.rules.specs.Board.{noObject, objectAt, putObject, send, load}
 use Rattle.rules.specs.Commands.{delivered}
 use Rattle.rules.specs.Ranges.{LineRanged}
-use Rattle.engine.proofs.Sends.{read-at, sent-none, sent-here, same-line, object-fits, object-weight}
+use Rattle.engine.proofs.Sends.{read-at, sent-none, sent-here, same-line, object-fits, object-changed}
 use Rattle.engine.proofs.Arrivals.{request-granted, request-joins}
 use Rattle.engine.proofs.turns.Tie as tie
 use Rattle.engine.proofs.turns.Proof.Loop.{Inv-loop, μ-loop, ready, less}
-use Rattle.engine.proofs.turns.Proof.Takes.{Took, turnTook, before, numOf, toOf, noneOf, none-is, freedNow, weightLeft, kind-is, kind-ranged, freed-is, freed-matched, freed-flights, weight-left, left-most, to-small, ends}
+use Rattle.engine.proofs.turns.Proof.Takes.{Took, turnTook, before, numOf, toOf, noneOf, none-is, freedNow, loadLeft, kind-is, kind-ranged, freed-is, freed-matched, freed-flights, load-left, left-most, to-small, ends}
 
 pub enum-known-sort : tie.Need-enum-known-sort Inv-loop μ-loop
 enum-known-sort c = search needs
@@ -82,14 +82,14 @@ tookHeld d = d .before .before .before .before .before .before .before .before
 abbrev wroteHeld : Held → Board
 wroteHeld d = putObject (freedNow (tookHeld d)) (d .before .before .before .before .wide3 .result) (d .hold .result)
 
-weight-held : (d : Held) → weightLeft (tookHeld d) ≡ load (wroteHeld d)
-weight-held d =
+load-held : (d : Held) → loadLeft (tookHeld d) ≡ load (wroteHeld d)
+load-held d =
     let t = d .before .before .before .before .before .before .before .before in
     let h = d .before .before .before in
-    same-line (freedNow t) (h .before .wide3 .result) (d .hold .result) (index-small h) (ready (turnTook t) .ranged .objects) (weightLeft t) (weight-left t) (ap (λ (o : Object). o .«line_count») (d .hold .ensures) ∙ ap (λ (o : Object). o .«line_count») (old-here h))
+    same-line (freedNow t) (h .before .wide3 .result) (d .hold .result) (index-small h) (ready (turnTook t) .ranged .objects) (loadLeft t) (load-left t) (ap (λ (o : Object). o .«line_count») (d .hold .ensures) ∙ ap (λ (o : Object). o .«line_count») (old-here h))
 
-pub add-weight-2 : tie.Need-add-weight-2 Inv-loop μ-loop
-add-weight-2 c = omega (arith, left-most (c .before .before .before .before .before .before .before .before))
+pub add-load-2 : tie.Need-add-load-2 Inv-loop μ-loop
+add-load-2 c = omega (arith, left-most (c .before .before .before .before .before .before .before .before))
 
 pub mul-flight-2 : tie.Need-mul-flight-2 Inv-loop μ-loop
 mul-flight-2 c = search needs
@@ -119,7 +119,7 @@ loop-again-5 c =
     let h = c .before .before .before .before in
     let g = c .before .before .before .before .before .before .before .sort .given in
     ends t _ _
-    (sent-here (wroteHeld d) (weightLeft t) (weight-held d) (record { kind = Grant (g .0 .0) (g .0 .1 .0) (g .0 .1 .1 .0); list = noneOf t }) 1 refl (delivered (before t) (numOf t))
+    (sent-here (wroteHeld d) (loadLeft t) (load-held d) (record { kind = Grant (g .0 .0) (g .0 .1 .0) (g .0 .1 .1 .0); list = noneOf t }) 1 refl (delivered (before t) (numOf t))
     (request-granted (before t) (numOf t) (freedNow t) (freed-is t) (g .0 .0) (g .0 .1 .0) (g .0 .1 .1 .0) (kind-is t _ (g .1)) (h .before .wide3 .result) (oldOf h) (d .hold .result) (h .before .wide3 .ensures .0) (old-is h) (c .before .before .before .is-welcome .result) (c .before .before .before .is-welcome .ensures) (c .before .before .if5 .taken) (d .hold .ensures) (noneOf t) (none-is t))
     (freed-flights t) (freed-matched t) (toOf t) (c .with2 .result) (t .lowest-free2 .ensures .0) (c .with2 .ensures) (to-small t) (λ z. omega (arith, z)))
 
@@ -142,14 +142,14 @@ tookWrote d = d .before .before .before .before .before .before .before .before 
 abbrev wrote : Wrote → Board
 wrote d = putObject (freedNow (tookWrote d)) (d .before .before .before .before .before .before .wide3 .result) (d .before .before .join .result)
 
-abbrev weightWrote : Wrote → ℕ
-weightWrote d = weightLeft (tookWrote d) + d .before .wide4 .result - d .wide5 .result
+abbrev loadWrote : Wrote → ℕ
+loadWrote d = loadLeft (tookWrote d) + d .before .wide4 .result - d .wide5 .result
 
 pub wide-requires-4 : tie.Need-wide-requires-4 Inv-loop μ-loop
 wide-requires-4 c κs = search needs
 
-pub add-weight-3 : tie.Need-add-weight-3 Inv-loop μ-loop
-add-weight-3 c = omega (arith, left-most (c .before .before .before .before .before .before .before .before .before), c .wide4 .ensures .1)
+pub add-load-3 : tie.Need-add-load-3 Inv-loop μ-loop
+add-load-3 c = omega (arith, left-most (c .before .before .before .before .before .before .before .before .before), c .wide4 .ensures .1)
 
 pub wide-requires-5 : tie.Need-wide-requires-5 Inv-loop μ-loop
 wide-requires-5 c κs = search needs
@@ -157,16 +157,16 @@ wide-requires-5 c κs = search needs
 old-counts : (d : Wrote) → d .wide5 .result ≡ objectAt (freedNow (tookWrote d)) (d .before .before .before .before .before .before .wide3 .result) .«line_count»
 old-counts d = d .wide5 .ensures .0 ∙ ap (λ (o : Object). o .«line_count») (old-here (d .before .before .before .before .before))
 
-pub sub-weight-2 : tie.Need-sub-weight-2 Inv-loop μ-loop
-sub-weight-2 c =
+pub sub-load-2 : tie.Need-sub-load-2 Inv-loop μ-loop
+sub-load-2 c =
     let d = c in
     let t = c .before .before .before .before .before .before .before .before .before .before in
-    omega (arith, object-fits (freedNow t) (d .before .before .before .before .before .before .wide3 .result) (d .before .before .join .result) (index-small (d .before .before .before .before .before)) (ready (turnTook t) .ranged .objects) (weightLeft t) (weight-left t) (d .wide5 .result) (d .before .wide4 .result) (old-counts d) (d .before .wide4 .ensures .0))
+    omega (arith, object-fits (freedNow t) (d .before .before .before .before .before .before .wide3 .result) (d .before .before .join .result) (index-small (d .before .before .before .before .before)) (ready (turnTook t) .ranged .objects) (loadLeft t) (load-left t) (d .wide5 .result) (d .before .wide4 .result) (old-counts d) (d .before .wide4 .ensures .0))
 
-weight-wrote : (d : Wrote) → weightWrote d ≡ load (wrote d)
-weight-wrote d =
+load-wrote : (d : Wrote) → loadWrote d ≡ load (wrote d)
+load-wrote d =
     let t = d .before .before .before .before .before .before .before .before .before .before in
-    object-weight (freedNow t) (d .before .before .before .before .before .before .wide3 .result) (d .before .before .join .result) (index-small (d .before .before .before .before .before)) (ready (turnTook t) .ranged .objects) (weightLeft t) (weight-left t) (d .wide5 .result) (d .before .wide4 .result) (old-counts d) (d .before .wide4 .ensures .0)
+    object-changed (freedNow t) (d .before .before .before .before .before .before .wide3 .result) (d .before .before .join .result) (index-small (d .before .before .before .before .before)) (ready (turnTook t) .ranged .objects) (loadLeft t) (load-left t) (d .wide5 .result) (d .before .wide4 .result) (old-counts d) (d .before .wide4 .ensures .0)
 
 -- ---- a list is started
 pub started-requires : tie.Need-started-requires Inv-loop μ-loop
@@ -202,12 +202,12 @@ loop-again-6 c =
     let a = c .before .before in
     let d = c .before .before .before .before in
     let t = c .before .before .before .before .before .before .before .before .before .before .before .before .before .before in
-    ends t (wrote d) (weightWrote d)
-    (sent-none (wrote d) (weightWrote d) (weight-wrote d) (sent a) (c .before .kind-load3 .result) (c .before .kind-load3 .ensures .0) (delivered (before t) (numOf t)) (arrives a) (c .if6 .taken))
+    ends t (wrote d) (loadWrote d)
+    (sent-none (wrote d) (loadWrote d) (load-wrote d) (sent a) (c .before .kind-load3 .result) (c .before .kind-load3 .ensures .0) (delivered (before t) (numOf t)) (arrives a) (c .if6 .taken))
 
 -- it is sent
-pub add-weight-4 : tie.Need-add-weight-4 Inv-loop μ-loop
-add-weight-4 c = omega (arith, left-most (c .before .before .before .before .before .before .before .before .before .before .before .before .before .before), c .before .before .before .before .before .wide4 .ensures .1, c .before .kind-load3 .ensures .1)
+pub add-load-4 : tie.Need-add-load-4 Inv-loop μ-loop
+add-load-4 c = omega (arith, left-most (c .before .before .before .before .before .before .before .before .before .before .before .before .before .before), c .before .before .before .before .before .wide4 .ensures .1, c .before .kind-load3 .ensures .1)
 
 pub mul-flight-3 : tie.Need-mul-flight-3 Inv-loop μ-loop
 mul-flight-3 c = search needs
@@ -236,5 +236,5 @@ loop-again-7 c =
     let d = c .before .before .before .before .before in
     let t = c .before .before .before .before .before .before .before .before .before .before .before .before .before .before .before in
     ends t _ _
-    (sent-here (wrote d) (weightWrote d) (weight-wrote d) (sent a) (c .before .before .kind-load3 .result) (c .before .before .kind-load3 .ensures .0) (delivered (before t) (numOf t)) (arrives a)
+    (sent-here (wrote d) (loadWrote d) (load-wrote d) (sent a) (c .before .before .kind-load3 .result) (c .before .before .kind-load3 .ensures .0) (delivered (before t) (numOf t)) (arrives a)
     (freed-flights t) (freed-matched t) (toOf t) (c .with3 .result) (t .lowest-free2 .ensures .0) (c .with3 .ensures) (to-small t) (c .before .if6 .left))

@@ -16,11 +16,11 @@ use Rattle.rules.specs.Board.{with, noFlight, noProcess, kindAt, listAt, putPro
 use Rattle.rules.specs.Commands.{delivered}
 use Rattle.rules.specs.Ranges.{KindRanged, ListRanged}
 use Rattle.rules.proofs.Load.{Matched, matched-freed, load-process}
-use Rattle.engine.proofs.Sends.{Made, read-at, one-free, freed-from, same-matched, freed-fits, freed-weight}
+use Rattle.engine.proofs.Sends.{Made, read-at, one-free, freed-from, same-matched, freed-fits, freed-left}
 use Rattle.engine.proofs.Arrivals.{nothing-arrives, grant-arrives}
 use Rattle.engine.proofs.Turn.{absent, present}
 use Rattle.engine.proofs.turns.Tie as tie
-use Rattle.engine.proofs.turns.Proof.Loop.{Inv-loop, μ-loop, Turn, boardNow, weightNow, hiOf, loOf, noneNow, none-now, going, hi-small, ready, weight-most, less, Again, again, place-small}
+use Rattle.engine.proofs.turns.Proof.Loop.{Inv-loop, μ-loop, Turn, boardNow, loadNow, hiOf, loOf, noneNow, none-now, going, hi-small, ready, loadNow-most, less, Again, again, place-small}
 
 -- ---- is it in flight?
 pub delivery-answer-requires : tie.Need-delivery-answer-requires Inv-loop μ-loop
@@ -51,7 +51,7 @@ loop-again-3 c =
     let b = boardNow e in
     again e (a .delivery-answer .result) b
     (absent b (hiOf e / 4 % 16) (hiOf e % 4 * 4 + loOf e / 64) (hiOf e % 64) (hiOf e / 64) (omega (arith, hi-small e)) (delivers a) (omega arith) (a .delivery-answer .result) (a .delivery-answer .ensures) (c .if4 .taken))
-    b (weightNow e) (record { board = refl; weight = going e .weight })
+    b (loadNow e) (record { board = refl; loaded = going e .loaded })
 
 pub wide-requires-2 : tie.Need-wide-requires-2 Inv-loop μ-loop
 wide-requires-2 c κs = search needs
@@ -84,8 +84,8 @@ sortRead r = getD (boardNow (turnRead r) .flights) (r .before .before .before .w
 sort-read : (r : Read) → kindAt (boardNow (turnRead r)) (hiOf (turnRead r) % 64) ≡ sortRead r
 sort-read r = sym (ap (λ (i : ℕ). getD (boardNow (turnRead r) .flights) i noFlight .kind) (r .before .before .before .wide2 .ensures .0))
 
-pub sub-weight : tie.Need-sub-weight Inv-loop μ-loop
-sub-weight c = let e = turnRead c in omega (arith, freed-fits (boardNow e) (hiOf e % 64) (omega arith) (weightNow e) (c .kind-load2 .result) (going e .weight) (sortRead c) (sort-read c) (c .kind-load2 .ensures .0))
+pub sub-load : tie.Need-sub-load Inv-loop μ-loop
+sub-load c = let e = turnRead c in omega (arith, freed-fits (boardNow e) (hiOf e % 64) (omega arith) (loadNow e) (c .kind-load2 .result) (going e .loaded) (sortRead c) (sort-read c) (c .kind-load2 .ensures .0))
 
 pub mul-free : tie.Need-mul-free Inv-loop μ-loop
 mul-free c = search needs
@@ -137,8 +137,8 @@ none-is t = none-now (turnTook t)
 abbrev pub freedNow : Took → Board
 freedNow t = with (before t) (before t .processes) (before t .objects) (t .before .without .result) (set (before t .flights) (t .before .before .before .before .before .wide2 .result) noFlight) (set (before t .lists) (t .before .before .before .before .before .wide2 .result) (noneOf t)) (before t .rings)
 
-abbrev pub weightLeft : Took → ℕ
-weightLeft t = weightNow (turnTook t) - t .before .before .kind-load2 .result
+abbrev pub loadLeft : Took → ℕ
+loadLeft t = loadNow (turnTook t) - t .before .before .kind-load2 .result
 
 pub kind-is : (t : Took) (k : Kind) → sortOf t ≡ k → kindAt (before t) (numOf t) ≡ k
 kind-is t k e = sort-read (t .before .before) ∙ e
@@ -161,11 +161,11 @@ freed-matched t = same-matched (freedNow t) (freed (before t) (numOf t)) (freed-
 pub freed-flights : (t : Took) → length (freedNow t .flights) ≡ 64
 freed-flights t = length-set (before t .flights) (t .before .before .before .before .before .wide2 .result) noFlight ∙ ready (turnTook t) .ranged .flights
 
-pub weight-left : (t : Took) → weightLeft t ≡ load (freedNow t)
-weight-left t = freed-weight (before t) (numOf t) (omega arith) (weightNow (turnTook t)) (t .before .before .kind-load2 .result) (going (turnTook t) .weight) (sortOf t) (sort-read (t .before .before)) (t .before .before .kind-load2 .ensures .0) (freedNow t) (freed-is t)
+pub load-left : (t : Took) → loadLeft t ≡ load (freedNow t)
+load-left t = freed-left (before t) (numOf t) (omega arith) (loadNow (turnTook t)) (t .before .before .kind-load2 .result) (going (turnTook t) .loaded) (sortOf t) (sort-read (t .before .before)) (t .before .before .kind-load2 .ensures .0) (freedNow t) (freed-is t)
 
-pub left-most : (t : Took) → weightLeft t ≤ 384
-left-most t = omega (arith, weight-most (turnTook t))
+pub left-most : (t : Took) → loadLeft t ≤ 384
+left-most t = omega (arith, loadNow-most (turnTook t))
 
 pub to-small : (t : Took) → toOf t < 64
 to-small t = omega (arith, t .lowest-free2 .ensures .0, ap lowestFree (t .before .without .ensures), one-free (before t .occupied) (numOf t) (omega arith))
@@ -191,8 +191,8 @@ loop-less-4 c = less (turnTook (c .before .before))
 pub loop-again-4 : tie.Need-loop-again-4 Inv-loop μ-loop
 loop-again-4 c =
     let t = c .before .before in
-    ends t (freedNow t) (weightLeft t)
-    (record { board = nothing-arrives (before t) (numOf t) (freedNow t) (freed-is t) (kind-is t Free (c .enum-told .given .1)); weight = weight-left t })
+    ends t (freedNow t) (loadLeft t)
+    (record { board = nothing-arrives (before t) (numOf t) (freedNow t) (freed-is t) (kind-is t Free (c .enum-told .given .1)); loaded = load-left t })
 
 -- ---- a grant
 pub enum-known-sort-2 : tie.Need-enum-known-sort-2 Inv-loop μ-loop
@@ -228,8 +228,8 @@ loop-less-8 c = less (turnTook (c .before .before .before .before .before .befor
 pub loop-again-8 : tie.Need-loop-again-8 Inv-loop μ-loop
 loop-again-8 c =
     let t = c .before .before .before .before .before .before in
-    ends t (putProcess (freedNow t) (c .before .before .wide6 .result) (c .granted .result)) (weightLeft t)
+    ends t (putProcess (freedNow t) (c .before .before .wide6 .result) (c .granted .result)) (loadLeft t)
     (record {
       board = grant-arrives (before t) (numOf t) (freedNow t) (freed-is t) (c .before .before .before .before .sort2 .given .0 .0) (c .before .before .before .before .sort2 .given .0 .1 .0) (c .before .before .before .before .sort2 .given .0 .1 .1 .0) (kind-is t _ (c .before .before .before .before .sort2 .given .1)) (c .before .before .wide6 .result) (getD (before t .processes) (c .before .before .wide6 .result) noProcess) (c .granted .result) (c .before .before .wide6 .ensures .0) (ap (λ (i : ℕ). getD (before t .processes) i noProcess) (c .before .before .wide6 .ensures .0)) (c .granted .ensures);
-      weight = weight-left t ∙ sym (load-process (freedNow t) (c .before .before .wide6 .result) (c .granted .result));
+      loaded = load-left t ∙ sym (load-process (freedNow t) (c .before .before .wide6 .result) (c .granted .result));
     })

@@ -9,7 +9,7 @@ use Rattle.printed.specs.Lines.{objectLine}
 use Rattle.rules.specs.Board.{objectAt}
 use Rattle.printed.proofs.Lines.{no-lines, flat-next, objects-whole}
 use Rattle.text.proofs.Text.{at-most-is, wrote-none, wrote-as, wrote-then}
-use Rattle.counts.proofs.Sums.{read-at, length-mapped}
+use Rattle.sums.proofs.Sums.{read-at, length-mapped}
 use Rattle.report.proofs.lines.object_lines.Statement.{statement}
 use Rattle.report.proofs.lines.object_lines.Tie as tie
 

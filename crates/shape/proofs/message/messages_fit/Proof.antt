@@ -6,7 +6,7 @@ use native.Mathlib.Omega.{arith}
 use mathlib.Core.Bool.{true}
 use lib.ListN.{length}
 use Rattle.rules.specs.Tables.{all}
-use Rattle.counts.proofs.Sums.{length-mapped}
+use Rattle.sums.proofs.Sums.{length-mapped}
 use Rattle.shape.proofs.Tests.{ends-table, goes-on, read-message}
 use Rattle.rules.specs.Bits.{taken, digit}
 use Rattle.rules.specs.Shape.{messageFits}

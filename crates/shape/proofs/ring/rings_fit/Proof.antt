@@ -6,7 +6,7 @@ use native.Mathlib.Omega.{arith}
 use mathlib.Core.Bool.{true}
 use lib.ListN.{length}
 use Rattle.rules.specs.Tables.{all}
-use Rattle.counts.proofs.Sums.{read-at, length-mapped}
+use Rattle.sums.proofs.Sums.{read-at, length-mapped}
 use Rattle.shape.proofs.Tests.{ends-table, goes-on}
 use Rattle.rules.specs.declared.Ring.{Ring}
 use Rattle.rules.specs.Board.{ringAt}

@@ -5,7 +5,7 @@ use Prim.Native.Nat.{_≤_, _-_}
 use native.Mathlib.Omega.{arith}
 use lib.ListN.{length}
 use Rattle.shape.specs.Stand.{notedRequests}
-use Rattle.counts.proofs.Sums.{length-mapped}
+use Rattle.sums.proofs.Sums.{length-mapped}
 use Rattle.shape.proofs.Noted.{requests-more}
 use Rattle.shape.proofs.stand.note_requests.Statement.{statement}
 use Rattle.shape.proofs.stand.note_requests.Tie as tie

@@ -1,0 +1,2 @@
+-- What commands one by one come to.
+pub mod BySteps

@@ -1,2 +1,0 @@
--- What commands one by one come to.
-pub mod Turns
