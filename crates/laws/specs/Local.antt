@@ -7,6 +7,7 @@ use mathlib.Core.Logic.{_≢_}
 use mathlib.Core.Bool.{true}
 use mathlib.Core.List.{List, [], _∷_, map}
 use lib.ListN.{getD}
+use Rattle.rules.specs.declared.Mode.{Mode}
 use Rattle.rules.specs.declared.Kind.{Kind}
 use Rattle.rules.specs.declared.Kind.the-variants.{Free, Request, Grant, Release, ListToHome, ListToObject}
 use Rattle.rules.specs.declared.Entries.{Entries}
@@ -125,8 +126,9 @@ pub record DeliveryLocal : Type 0 where
   -- and it is decided by the message, the table of homes and the books at the destination
   pub same : (b c : Board) (n : ℕ) → Sized b → Sized c → SameTable b c → SameMessage b c n → SameBooks b c (destination b n) → SameDelivery b c n
 
--- "A delivery is never short of room." Nor is an accepted request or release.
+-- "A delivery is never short of room." Nor is an accepted request or release, nor the line of an object at which a request arrives.
 pub record RoomEnough : Type 0 where
   pub delivery : (b : Board) (n : ℕ) → Sized b → inShape b ≡ true → n < 64 → inFlight b n ≡ true → Room (acted b n) (sent b n)
   pub request : (b : Board) (p o m : ℕ) → Sized b → inShape b ≡ true → turn b (Do.Request p o m) .answer ≡ Done → lowestFree (b .occupied) < 64
   pub release : (b : Board) (p o : ℕ) → Sized b → inShape b ≡ true → turn b (Do.Release p o) .answer ≡ Done → lowestFree (b .occupied) < 64
+  pub line : (b : Board) (n p o : ℕ) (m : Mode) → Sized b → inShape b ≡ true → n < 64 → kindAt b n ≡ Request p o m → objectAt b o .«line_count» < 16
