@@ -267,7 +267,7 @@ release-load b p o e =
     let a4 = passed _ HoldsNot _ refl (a3 .1) in
     ltb-false 63 (load b) (passed _ LoadTooHigh _ refl (a4 .1) .0)
 
-deliver-below : (b : Board) (n : ℕ) → done (answerTo b (Do.Deliver n)) ≡ true → n < 64
+pub deliver-below : (b : Board) (n : ℕ) → done (answerTo b (Do.Deliver n)) ≡ true → n < 64
 unfolding answerTo
 deliver-below b n e = ltb-true n 64 (both-left (ltb n 64) (inFlight b n) (not-false _ (passed _ NoMessage _ refl e .0)))
 

@@ -13,3 +13,4 @@ pub mod Kept
 pub mod Local
 pub mod Room
 pub mod Sizes
+pub mod Own
