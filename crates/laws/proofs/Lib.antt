@@ -14,3 +14,4 @@ pub mod Local
 pub mod Room
 pub mod Sizes
 pub mod Own
+pub mod Commands

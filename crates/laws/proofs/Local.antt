@@ -181,7 +181,7 @@ delivery-elsewhere b n =
     }
 
 -- ---- two boards that agree
-set-agree : {A : Type 0} (l r : List A) (p q : ℕ) (x y d : A) → length l ≡ length r → x ≡ y → getD l q d ≡ getD r q d → getD (set l p x) q d ≡ getD (set r p y) q d
+pub set-agree : {A : Type 0} (l r : List A) (p q : ℕ) (x y d : A) → length l ≡ length r → x ≡ y → getD l q d ≡ getD r q d → getD (set l p x) q d ≡ getD (set r p y) q d
 set-agree {A} l r p q x y d s z e = elim (ℕ-discrete q p) [
   | yes w ↦ elim (decLt p (length l)) [
     | yes h ↦ subst (λ (i : ℕ). getD (set l p x) i d ≡ getD (set r p y) i d) (sym w) (getD-set-same l p x d h ∙ z ∙ sym (getD-set-same r p y d (omega arith)))
