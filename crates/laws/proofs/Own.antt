@@ -27,8 +27,7 @@ use Rattle.rules.specs.declared.Arrived.{Arrived}
 use Rattle.rules.specs.declared.Board.{Board}
 use Rattle.rules.specs.declared.Command.{Command}
 use Rattle.rules.specs.declared.Command.the-variants as Do
-use Rattle.rules.specs.declared.Answer.{Answer}
-use Rattle.rules.specs.declared.Answer.the-variants.{Done, CountOutside, HomeOutside, NoProcess, NoObject, NoMode, ProcessWaits, HasReleased, HoldsAlready, HoldsNot, LoadTooHigh, NoMessage, SheetCut, WrongForm, SpareBit, OddByte, TooManyCommands, OutOfShape, RoomTooShort}
+use Rattle.rules.specs.declared.Answer.the-variants.{Done}
 use Rattle.rules.specs.declared.Stepped.{Stepped}
 use Rattle.rules.specs.Tables.{among}
 use Rattle.rules.specs.Bits.{lowestFree}
@@ -47,6 +46,7 @@ use Rattle.rules.proofs.Load.{freed-same, freed-other}
 use Rattle.laws.specs.Shape.{Sized, KindShaped}
 use Rattle.laws.specs.Own.{messageAt, isList, Starts, Goes, stays, fromHome, fromObject, Records, OwnList, starts, goes, OwnRing, records, kept, OwnStep, OwnReached}
 use Rattle.laws.proofs.Tables.{by-pick, each-set, replicate-at}
+use Rattle.laws.proofs.Tests.{done-is}
 use Rattle.laws.proofs.Ranges.{turn-ranged}
 use Rattle.laws.proofs.Shape.{shaped-ranged}
 use Rattle.laws.proofs.Opening.{opening-sized, opening-shaped}
@@ -71,27 +71,6 @@ placed b i r s = by-pick (λ (c : Board). (ringAt c s ≡ ringAt b s) ⊎ ((i �
     positive n f = elim (ℕ-discrete n 0) [ yes z ↦ absurd (f z) | no z ↦ omega arith ]
 
 -- ---- what a command does to a board, in one of two ways
-done-is : (a : Answer) → done a ≡ true → a ≡ Done
-done-is Done e = refl
-done-is CountOutside e = absurd (true-not-false (sym e))
-done-is HomeOutside e = absurd (true-not-false (sym e))
-done-is NoProcess e = absurd (true-not-false (sym e))
-done-is NoObject e = absurd (true-not-false (sym e))
-done-is NoMode e = absurd (true-not-false (sym e))
-done-is ProcessWaits e = absurd (true-not-false (sym e))
-done-is HasReleased e = absurd (true-not-false (sym e))
-done-is HoldsAlready e = absurd (true-not-false (sym e))
-done-is HoldsNot e = absurd (true-not-false (sym e))
-done-is LoadTooHigh e = absurd (true-not-false (sym e))
-done-is NoMessage e = absurd (true-not-false (sym e))
-done-is SheetCut e = absurd (true-not-false (sym e))
-done-is WrongForm e = absurd (true-not-false (sym e))
-done-is SpareBit e = absurd (true-not-false (sym e))
-done-is OddByte e = absurd (true-not-false (sym e))
-done-is TooManyCommands e = absurd (true-not-false (sym e))
-done-is OutOfShape e = absurd (true-not-false (sym e))
-done-is RoomTooShort e = absurd (true-not-false (sym e))
-
 data Did (b : Board) (c : Command) : Type 0 where
   nothing : step b c .board ≡ b → Did b c
   acted : inShape b ≡ true → done (answerTo b c) ≡ true → step b c .answer ≡ Done → step b c .board ≡ effect b c → Did b c
