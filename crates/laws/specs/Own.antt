@@ -15,6 +15,7 @@ use Rattle.rules.specs.declared.Answer.the-variants.{Done}
 use Rattle.rules.specs.Book.{waitedFor}
 use Rattle.rules.specs.Lists.{starterOf, askedOf, addAll, toHome, starter, listAtHome, listAtObject}
 use Rattle.rules.specs.Board.{processAt, objectAt, kindAt, listAt, ringAt}
+use Rattle.rules.specs.Commands.{turn}
 use Rattle.rules.specs.Shape.{step}
 use Rattle.rules.specs.Waits.{Stands, Filled, Reached}
 use Rattle.laws.specs.Shape.{Sized}
@@ -76,6 +77,9 @@ pub data OwnRing (s : ℕ) : Board → Type 0 where
 pub record OwnStep : Type 0 where
   -- place s is written by a list that s started, where it arrives at an object, and by nothing else
   pub place : (b : Board) (c : Command) (s : ℕ) → (ringAt (step b c .board) s ≡ ringAt b s) ⊎ ((n : ℕ) × (starterOf (listAt b n) ≡ s) × Records b c s n)
+  -- also inside `run`, which asks the shape once and then takes turns
+  pub turn : (b : Board) (c : Command) (s : ℕ) → (ringAt (turn b c .board) s ≡ ringAt b s)
+      ⊎ ((n : ℕ) × (o : ℕ) × (c ≡ Do.Deliver n) × (kindAt b n ≡ ListToObject o) × (starterOf (listAt b n) ≡ s))
   -- a list was in flight before, with the same starter, or its starter's own request joined a line
   pub list : (b : Board) (c : Command) → Sized b → (k : ℕ) → isList (kindAt (step b c .board) k) ≡ true
       → ((n : ℕ) × (isList (kindAt b n) ≡ true) × (starterOf (listAt b n) ≡ starterOf (listAt (step b c .board) k)) × Goes b c n k)
