@@ -33,12 +33,13 @@ use Rattle.rules.specs.Lists.{plain, entryDone, addAll, starter, starterOf, ask
 use Rattle.rules.specs.Board.{processAt, objectAt, kindAt, listAt, putProcess, putObject, freed, inFlight, putFirst, send, load}
 use Rattle.rules.specs.Commands.{recording, arriving, modeOf, requested, released, delivered, effect, answerTo, turn, oneMore, draining}
 use Rattle.rules.specs.Shape.{holdsFit, rowFits, different, countsFit, processFits, objectFits, listFits, noList, messageFits, ringFits, upTo, standing, inShape, step}
-use Rattle.rules.proofs.Tables.{both-left, not-passed}
+use Rattle.rules.proofs.Tables.{by-test, both-left, not-passed}
 use Rattle.rules.proofs.Book.{joined-size, front-left-size, settled-keeps, settled-count}
 use Rattle.rules.proofs.Load.{load-object, load-delivered, load-requested, load-released}
 use Rattle.laws.specs.Shape.{Sized, ObjectShaped, ListShaped, KindShaped, Shaped}
 use Rattle.laws.specs.Kept.{ShapeKept, RequestSaid, RequestKept, TwiceHappens}
 use Rattle.laws.proofs.Tables.{by-pick}
+use Rattle.laws.proofs.Tests.{done-is}
 use Rattle.laws.proofs.Grants.{GrantsBelow, settled-grants}
 use Rattle.laws.proofs.Ranges.{passed, Named, request-named, release-named}
 use Rattle.laws.proofs.Shape.{shaped, tested, shaped-ranged, no-list-shaped}
@@ -267,7 +268,7 @@ release-load b p o e =
     let a4 = passed _ HoldsNot _ refl (a3 .1) in
     ltb-false 63 (load b) (passed _ LoadTooHigh _ refl (a4 .1) .0)
 
-deliver-below : (b : Board) (n : ℕ) → done (answerTo b (Do.Deliver n)) ≡ true → n < 64
+pub deliver-below : (b : Board) (n : ℕ) → done (answerTo b (Do.Deliver n)) ≡ true → n < 64
 unfolding answerTo
 deliver-below b n e = ltb-true n 64 (both-left (ltb n 64) (inFlight b n) (not-false _ (passed _ NoMessage _ refl e .0)))
 
@@ -326,6 +327,19 @@ turn-done b c e = rw e
 out-of-shape : (b : Board) (c : Command) → inShape b ≡ false → step b c .answer ≡ OutOfShape
 unfolding step
 out-of-shape b c e = rw e
+
+-- ---- a call on a board changes nothing, or is done
+pub data Did (b : Board) (c : Command) : Type 0 where
+  refused : step b c .board ≡ b → Did b c
+  accepted : inShape b ≡ true → done (answerTo b c) ≡ true → step b c .answer ≡ Done → step b c .board ≡ effect b c → Did b c
+
+pub did : (b : Board) (c : Command) → Did b c
+unfolding step turn
+did b c = by-test (inShape b)
+    (λ e. by-test (done (answerTo b c))
+    (λ d. accepted e d (rw e (done-is (answerTo b c) d)) (rw (e, d)))
+    (λ d. refused (rw (e, d))))
+    (λ e. refused (rw e))
 
 module _ (b : Board) (p o m : ℕ) (g : Good b) (e : turn b (Do.Request p o m) .answer ≡ Done) where
   abbrev new : Board

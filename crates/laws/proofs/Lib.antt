@@ -13,3 +13,5 @@ pub mod Kept
 pub mod Local
 pub mod Room
 pub mod Sizes
+pub mod Own
+pub mod Commands

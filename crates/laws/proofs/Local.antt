@@ -80,13 +80,33 @@ arriving-is ListToHome l b = refl
 arriving-is (ListToObject o) l b = refl
 
 -- ---- where a message goes, what it sends and finds, hangs on the table of homes and the one book
+-- the board with another table of homes
+abbrev housed : Board → List ℕ → List ℕ → Board
+housed b hp ho = record {
+  nodes = b .nodes;
+  «process_count» = b .«process_count»;
+  «object_count» = b .«object_count»;
+  «process_home» = hp;
+  «object_home» = ho;
+  processes = b .processes;
+  objects = b .objects;
+  occupied = b .occupied;
+  flights = b .flights;
+  lists = b .lists;
+  rings = b .rings;
+}
+
 goes-same : (k : Kind) (l : Entries) (b c : Board) → SameTable b c → goesTo k l b ≡ goesTo k l c
-goes-same Free l b c t = refl
-goes-same (Request p o m) l b c t = ap (λ (h : List ℕ). getD h o 0) (t .objectHome)
-goes-same (Grant p o m) l b c t = ap (λ (h : List ℕ). getD h p 0) (t .processHome)
-goes-same (Release p o) l b c t = ap (λ (h : List ℕ). getD h o 0) (t .objectHome)
-goes-same ListToHome l b c t = ap (λ (h : List ℕ). getD h (askedOf l) 0) (t .processHome)
-goes-same (ListToObject o) l b c t = ap (λ (h : List ℕ). getD h o 0) (t .objectHome)
+goes-same k l b c t = ap₂ (λ (hp ho : List ℕ). goesTo k l (housed b hp ho)) (t .processHome) (t .objectHome) ∙ by-homes k
+  where
+    -- nothing else of the board is looked at
+    by-homes : (k : Kind) → goesTo k l (housed b (c .«process_home») (c .«object_home»)) ≡ goesTo k l c
+    by-homes Free = refl
+    by-homes (Request p o m) = refl
+    by-homes (Grant p o m) = refl
+    by-homes (Release p o) = refl
+    by-homes ListToHome = refl
+    by-homes (ListToObject o) = refl
 
 sends-same : (k : Kind) (l : Entries) (b c : Board) → SameBooks b c (goesTo k l b) → sends k l b ≡ sends k l c
 sends-same Free l b c s = refl
@@ -181,7 +201,7 @@ delivery-elsewhere b n =
     }
 
 -- ---- two boards that agree
-set-agree : {A : Type 0} (l r : List A) (p q : ℕ) (x y d : A) → length l ≡ length r → x ≡ y → getD l q d ≡ getD r q d → getD (set l p x) q d ≡ getD (set r p y) q d
+pub set-agree : {A : Type 0} (l r : List A) (p q : ℕ) (x y d : A) → length l ≡ length r → x ≡ y → getD l q d ≡ getD r q d → getD (set l p x) q d ≡ getD (set r p y) q d
 set-agree {A} l r p q x y d s z e = elim (ℕ-discrete q p) [
   | yes w ↦ elim (decLt p (length l)) [
     | yes h ↦ subst (λ (i : ℕ). getD (set l p x) i d ≡ getD (set r p y) i d) (sym w) (getD-set-same l p x d h ∙ z ∙ sym (getD-set-same r p y d (omega arith)))

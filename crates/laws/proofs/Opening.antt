@@ -1,5 +1,7 @@
--- An opening that is not refused is in shape: its tests give the counts and the homes, and every book holds zero.
+-- An opening that is not refused is in shape: its tests give the counts and the homes, and every book holds zero. The board of a refused
+-- one is all zeros, which is out of shape.
 use mathlib.Core.Path.{_≡_, refl, ap, sym, _∙_, subst}
+use mathlib.Core.Logic.{_≢_}
 use mathlib.Core.Bool.{Bool, true, false, true≢false}
 use mathlib.Core.List.{List}
 use Prim.Native.Nat.{ℕ, _≤_, _<_}
@@ -14,18 +16,20 @@ use Rattle.rules.specs.declared.Process.{Process}
 use Rattle.rules.specs.declared.Object.{Object}
 use Rattle.rules.specs.declared.Ring.{Ring}
 use Rattle.rules.specs.declared.Board.{Board}
+use Rattle.rules.specs.declared.Answer.{Answer}
 use Rattle.rules.specs.declared.Answer.the-variants.{Done, CountOutside, HomeOutside}
 use Rattle.rules.specs.Tables.{pick, sum}
 use Rattle.rules.specs.Answers.{done, firstOf}
 use Rattle.rules.specs.Lists.{noEntries, noRing}
 use Rattle.rules.specs.Board.{noProcess, noObject, noFlight, isMessage, load}
 use Rattle.rules.specs.Commands.{outside, homesOf, homeOutside, openingTests, emptyBoard, zeroBoard, opening}
-use Rattle.rules.specs.Shape.{upTo, standing, inShape}
+use Rattle.rules.specs.Shape.{upTo, standing, countsFit, inShape}
+use Rattle.rules.specs.Sheet.{commandCount, commandsPart, openingOf, sheetAnswer, Run, refusedRun, wholeRun, openingRunTests, runOpening, runSheet}
 use Rattle.rules.proofs.Bits.{taken-zero}
-use Rattle.laws.specs.Shape.{Sized, Within, Row, ProcessShaped, ObjectShaped, RingShaped, Shaped, OpeningShaped}
+use Rattle.laws.specs.Shape.{Sized, Within, Row, ProcessShaped, ObjectShaped, RingShaped, Shaped, OpeningShaped, RefusedZeros}
 use Rattle.rules.proofs.Tables.{rows-length, rows-at, all-at}
 use Rattle.laws.proofs.Tables.{by-pick, replicate-at}
-use Rattle.laws.proofs.Tests.{parts}
+use Rattle.laws.proofs.Tests.{parts, done-is}
 use Rattle.laws.proofs.Ranges.{passed}
 use Rattle.laws.proofs.Shape.{no-process-shaped, no-object-shaped, no-ring-shaped, unused, tested}
 
@@ -122,3 +126,32 @@ module _ (n p o : ℕ) (hp ho : List ℕ) where
 
 pub opening-in-shape : OpeningShaped
 opening-in-shape = record { inShape = λ n p o hp ho e. tested _ (opening-shaped n p o hp ho e); sized = opening-sized }
+
+-- ---- a refused opening or sheet hands back zeros
+opening-zeros : (n p o : ℕ) (hp ho : List ℕ) → opening n p o hp ho .answer ≢ Done → opening n p o hp ho .board ≡ zeroBoard
+unfolding opening
+opening-zeros n p o hp ho f = by-pick (λ (b : Board). b ≡ zeroBoard) (done (firstOf (openingTests n p o hp ho))) (λ e. absurd (f (done-is _ e))) (λ e. refl)
+
+-- a run that is refused, and one that is done
+run-zeros : (t : Bool) (r : Run) (a : Answer) (room : List ℕ) → r .ran .answer ≡ Done → pick t r (refusedRun a zeroBoard room) .ran .answer ≢ Done → pick t r (refusedRun a zeroBoard room) .ran .board ≡ zeroBoard
+run-zeros true r a room e f = absurd (f e)
+run-zeros false r a room e f = refl
+
+sheet-zeros : (s room : List ℕ) → runSheet s room .ran .answer ≢ Done → runSheet s room .ran .board ≡ zeroBoard
+unfolding runSheet
+sheet-zeros s room = run-zeros (done (sheetAnswer s room)) (wholeRun (openingOf s) (commandsPart s) room (commandCount (commandsPart s))) (sheetAnswer s room) room refl
+
+opening-run-zeros : (n p o : ℕ) (hp ho s room : List ℕ) → runOpening n p o hp ho s room .ran .answer ≢ Done → runOpening n p o hp ho s room .ran .board ≡ zeroBoard
+unfolding runOpening
+opening-run-zeros n p o hp ho s room =
+    let b = opening n p o hp ho in
+    let a = firstOf (openingRunTests (b .answer) s room) in
+    run-zeros (done a) (wholeRun (b .board) s room (commandCount s)) a room refl
+
+-- computed: a board of no nodes
+zeros-out : inShape zeroBoard ≡ false
+unfolding inShape countsFit
+zeros-out = refl
+
+pub refused-zeros : RefusedZeros
+refused-zeros = record { zeros = zeros-out; opening = opening-zeros; sheet = sheet-zeros; openingRun = opening-run-zeros }

@@ -31,7 +31,7 @@ abbrev RingsSized : List Ring → Type 0
 RingsSized rs = (i : ℕ) → length (getD rs i noRing .processes) ≡ 16
 
 -- ---- sending leaves the rings
-send-rings : (b : Board) (m : Message) → send b m .rings ≡ b .rings
+pub send-rings : (b : Board) (m : Message) → send b m .rings ≡ b .rings
 unfolding send putFirst
 send-rings b m = by-pick (λ (c : Board). c .rings ≡ b .rings) (isMessage (m .kind)) (λ e. by-pick (λ (c : Board). c .rings ≡ b .rings) (ltb (lowestFree (b .occupied)) 64) (λ l. refl) (λ l. refl)) (λ e. refl)
 

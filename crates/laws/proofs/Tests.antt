@@ -1,4 +1,4 @@
--- Tests that pass, as facts: a conjunction, different numbers, a set of numbers below a limit.
+-- Tests that pass, as facts: a conjunction, different numbers, a set of numbers below a limit, an answer that is done.
 use mathlib.Core.Path.{_≡_, refl, ap, sym, _∙_}
 use mathlib.Core.Bool.{Bool, true, _&&_}
 use mathlib.Core.List.{List}
@@ -8,9 +8,12 @@ use native.Mathlib.Nat.{div-eq-of-lt, div-lt-iff-lt-mul, one-mul}
 use lib.ListN.{getD}
 use lib.Pow.{pow-pos}
 use borrow.Author.Tests.{eqb-true, eq-eqb}
+use Rattle.rules.specs.declared.Answer.{Answer}
+use Rattle.rules.specs.declared.Answer.the-variants.{Done, CountOutside, HomeOutside, NoProcess, NoObject, NoMode, ProcessWaits, HasReleased, HoldsAlready, HoldsNot, LoadTooHigh, NoMessage, SheetCut, WrongForm, SpareBit, OddByte, TooManyCommands, OutOfShape, RoomTooShort}
+use Rattle.rules.specs.Answers.{done}
 use Rattle.rules.specs.Tables.{placeOf}
 use Rattle.rules.specs.Shape.{setFits, different}
-use Rattle.rules.proofs.Tables.{both-left, both-right, all-at, all-from, place-first}
+use Rattle.rules.proofs.Tables.{true-not-false, both-left, both-right, all-at, all-from, place-first}
 use Rattle.laws.specs.Shape.{Differ}
 
 pub parts : (a b : Bool) → a && b ≡ true → (a ≡ true) × (b ≡ true)
@@ -33,3 +36,25 @@ set-below n c e = rw one-mul at (div-lt-iff-lt-mul {k = 2 ^ c} {x = n} {y = 1} (
 
 pub set-tested : (n c : ℕ) → n < 2 ^ c → setFits n c ≡ true
 set-tested n c h = eq-eqb _ _ (div-eq-of-lt h)
+
+-- ---- one answer is done
+pub done-is : (a : Answer) → done a ≡ true → a ≡ Done
+done-is Done e = refl
+done-is CountOutside e = absurd (true-not-false (sym e))
+done-is HomeOutside e = absurd (true-not-false (sym e))
+done-is NoProcess e = absurd (true-not-false (sym e))
+done-is NoObject e = absurd (true-not-false (sym e))
+done-is NoMode e = absurd (true-not-false (sym e))
+done-is ProcessWaits e = absurd (true-not-false (sym e))
+done-is HasReleased e = absurd (true-not-false (sym e))
+done-is HoldsAlready e = absurd (true-not-false (sym e))
+done-is HoldsNot e = absurd (true-not-false (sym e))
+done-is LoadTooHigh e = absurd (true-not-false (sym e))
+done-is NoMessage e = absurd (true-not-false (sym e))
+done-is SheetCut e = absurd (true-not-false (sym e))
+done-is WrongForm e = absurd (true-not-false (sym e))
+done-is SpareBit e = absurd (true-not-false (sym e))
+done-is OddByte e = absurd (true-not-false (sym e))
+done-is TooManyCommands e = absurd (true-not-false (sym e))
+done-is OutOfShape e = absurd (true-not-false (sym e))
+done-is RoomTooShort e = absurd (true-not-false (sym e))

@@ -3,3 +3,4 @@ pub mod Ranges
 pub mod Shape
 pub mod Kept
 pub mod Local
+pub mod Own

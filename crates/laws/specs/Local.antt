@@ -1,12 +1,15 @@
 -- "Each node acts on the message and its own book": where a message goes, what it sends there and which ring it finds; that a delivery
--- does this and no more; that two boards which agree on the message and on the books of that node make the same of it; and that there
--- is room for all that is sent. The recorded rings are the bench's own record, and which numbers the messages take is the bench's matter.
+-- does this and no more; that two boards which agree on the message and on the books of that node make the same of it; the same of a
+-- request and a release, which the home of their process takes; and that there is room for all that is sent. The recorded rings are the
+-- bench's own record, and which numbers the messages take and how high the load is are the bench's matter.
 use Prim.Native.Nat.{ℕ, _<_}
 use mathlib.Core.Path.{_≡_}
 use mathlib.Core.Logic.{_≢_}
-use mathlib.Core.Bool.{true}
+use mathlib.Core.Bool.{Bool, true, false}
 use mathlib.Core.List.{List, [], _∷_, map}
+use lib.Dec.{ltb}
 use lib.ListN.{getD}
+use Rattle.rules.specs.declared.Mode.{Mode}
 use Rattle.rules.specs.declared.Kind.{Kind}
 use Rattle.rules.specs.declared.Kind.the-variants.{Free, Request, Grant, Release, ListToHome, ListToObject}
 use Rattle.rules.specs.declared.Entries.{Entries}
@@ -17,11 +20,13 @@ use Rattle.rules.specs.declared.Object.{Object}
 use Rattle.rules.specs.declared.Board.{Board}
 use Rattle.rules.specs.Bits.{lowestFree}
 use Rattle.rules.specs.Book.{releaseArrives}
-use Rattle.rules.specs.Lists.{plain, noRing, starterOf, askedOf, listAtHome, listAtObject, requestArrives}
-use Rattle.rules.specs.Board.{with, processAt, objectAt, kindAt, listAt, freed, inFlight, send}
+use Rattle.rules.specs.Home.{asking, dropping}
+use Rattle.rules.specs.Lists.{plain, nothing, noRing, starterOf, askedOf, listAtHome, listAtObject, requestArrives}
+use Rattle.rules.specs.Board.{with, processAt, objectAt, kindAt, listAt, putProcess, putMessage, freed, inFlight, send, load}
+use Rattle.rules.specs.declared.Command.{Command}
 use Rattle.rules.specs.declared.Command.the-variants as Do
 use Rattle.rules.specs.declared.Answer.the-variants.{Done}
-use Rattle.rules.specs.Commands.{recording, delivered, turn}
+use Rattle.rules.specs.Commands.{recording, delivered, modeOf, turn}
 use Rattle.rules.specs.Shape.{inShape}
 use Rattle.laws.specs.Shape.{Sized}
 
@@ -125,8 +130,55 @@ pub record DeliveryLocal : Type 0 where
   -- and it is decided by the message, the table of homes and the books at the destination
   pub same : (b c : Board) (n : ℕ) → Sized b → Sized c → SameTable b c → SameMessage b c n → SameBooks b c (destination b n) → SameDelivery b c n
 
--- "A delivery is never short of room." Nor is an accepted request or release.
+-- ---- a request and a release: "the home notes the wait and sends a request", "the home drops the hold .. and sends a release"
+-- command x is one of process p
+pub data CommandOf (p : ℕ) : Command → Type 0 where
+  request : (o m : ℕ) → CommandOf p (Do.Request p o m)
+  release : (o : ℕ) → CommandOf p (Do.Release p o)
+
+-- what it makes of the book of its process, and the message that it sends
+abbrev pub noted : Command → Process → Process
+noted (Do.Request p o m) x = asking x o (modeOf m)
+noted (Do.Release p o) x = dropping x o
+noted (Do.Deliver n) x = x
+
+abbrev pub sentBy : Command → Message
+sentBy (Do.Request p o m) = plain (Request p o (modeOf m))
+sentBy (Do.Release p o) = plain (Release p o)
+sentBy (Do.Deliver n) = nothing
+
+-- the bench has too high a load for it
+abbrev pub overloaded : Command → Board → Bool
+overloaded (Do.Request p o m) b = ltb 62 (load b)
+overloaded (Do.Release p o) b = ltb 63 (load b)
+overloaded (Do.Deliver n) b = false
+
+-- the book of p aside, all books are as before, and so are the recorded rings
+pub record OnlyBook (b c : Board) (p : ℕ) : Type 0 where
+  pub processes : (q : ℕ) → q ≢ p → processAt c q ≡ processAt b q
+  pub objects : c .objects ≡ b .objects
+  pub rings : c .rings ≡ b .rings
+
+-- what two boards make of a command has in common
+pub record SameCommand (b c : Board) (x : Command) (p : ℕ) : Type 0 where
+  pub answer : turn b x .answer ≡ turn c x .answer
+  pub book : processAt (turn b x .board) p ≡ processAt (turn c x .board) p
+
+pub record CommandLocal : Type 0 where
+  -- all that it does, where it is accepted: one book written, and one message sent, under the lowest free number
+  pub all : (b : Board) (p : ℕ) (x : Command) → CommandOf p x → Sized b → inShape b ≡ true → turn b x .answer ≡ Done
+      → turn b x .board ≡ putMessage (putProcess b p (noted x (processAt b p))) (lowestFree (b .occupied)) (sentBy x)
+  -- on any board, accepted or not
+  pub table : (b : Board) (p : ℕ) (x : Command) → CommandOf p x → SameTable b (turn b x .board)
+  pub only : (b : Board) (p : ℕ) (x : Command) → CommandOf p x → OnlyBook b (turn b x .board) p
+  pub elsewhere : (b : Board) (p : ℕ) (x : Command) → CommandOf p x → Elsewhere b (turn b x .board) (processHome b p)
+  -- and it is decided by the command, the counts, the book of its process and whether the load is too high
+  pub same : (b c : Board) (p : ℕ) (x : Command) → CommandOf p x → Sized b → Sized c → SameTable b c → processAt b p ≡ processAt c p → overloaded x b ≡ overloaded x c → SameCommand b c x p
+
+-- ---- room
+-- "A delivery is never short of room." Nor is an accepted request or release, nor the line of an object at which a request arrives.
 pub record RoomEnough : Type 0 where
   pub delivery : (b : Board) (n : ℕ) → Sized b → inShape b ≡ true → n < 64 → inFlight b n ≡ true → Room (acted b n) (sent b n)
   pub request : (b : Board) (p o m : ℕ) → Sized b → inShape b ≡ true → turn b (Do.Request p o m) .answer ≡ Done → lowestFree (b .occupied) < 64
   pub release : (b : Board) (p o : ℕ) → Sized b → inShape b ≡ true → turn b (Do.Release p o) .answer ≡ Done → lowestFree (b .occupied) < 64
+  pub line : (b : Board) (n p o : ℕ) (m : Mode) → Sized b → inShape b ≡ true → n < 64 → kindAt b n ≡ Request p o m → objectAt b o .«line_count» < 16

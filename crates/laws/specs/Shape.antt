@@ -2,7 +2,8 @@
 -- a computer can run. The two agree on every board whose arrays have the lengths that their types say.
 use Prim.Native.Nat.{ℕ, _^_, _≤_, _<_}
 use mathlib.Core.Path.{_≡_}
-use mathlib.Core.Bool.{true}
+use mathlib.Core.Logic.{_≢_}
+use mathlib.Core.Bool.{true, false}
 use mathlib.Core.List.{List}
 use lib.ListN.{length, getD}
 use Rattle.rules.specs.declared.Wait.{Wait}
@@ -19,8 +20,9 @@ use Rattle.rules.specs.Bits.{taken}
 use Rattle.rules.specs.Lists.{entryAt, leadAt}
 use Rattle.rules.specs.Board.{processAt, objectAt, kindAt, listAt, ringAt, inFlight, isMessage, load}
 use Rattle.rules.specs.declared.Command.{Command}
-use Rattle.rules.specs.Commands.{opening, turn}
+use Rattle.rules.specs.Commands.{opening, zeroBoard, turn}
 use Rattle.rules.specs.Shape.{upTo, standing, inShape}
+use Rattle.rules.specs.Sheet.{runOpening, runSheet}
 use Rattle.rules.specs.Ranges.{Ranged}
 
 -- ---- lengths, as the types have them
@@ -143,6 +145,13 @@ pub record OpeningShaped : Type 0 where
   pub inShape : (n p o : ℕ) (hp ho : List ℕ) → opening n p o hp ho .answer ≡ Done → inShape (opening n p o hp ho .board) ≡ true
   -- the lengths hold of a refused opening's board of zeros too
   pub sized : (n p o : ℕ) (hp ho : List ℕ) → Sized (opening n p o hp ho .board)
+
+-- "Where a refused opening or sheet hands back a board by value, that board is all zeros, which is out of shape."
+pub record RefusedZeros : Type 0 where
+  pub zeros : inShape zeroBoard ≡ false
+  pub opening : (n p o : ℕ) (hp ho : List ℕ) → opening n p o hp ho .answer ≢ Done → opening n p o hp ho .board ≡ zeroBoard
+  pub sheet : (s room : List ℕ) → runSheet s room .ran .answer ≢ Done → runSheet s room .ran .board ≡ zeroBoard
+  pub openingRun : (n p o : ℕ) (hp ho s room : List ℕ) → runOpening n p o hp ho s room .ran .answer ≢ Done → runOpening n p o hp ho s room .ran .board ≡ zeroBoard
 
 -- the lengths are kept by every command, also by one that puts the board out of shape
 abbrev pub SizesKept : Type 0

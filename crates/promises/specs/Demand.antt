@@ -1,7 +1,8 @@
 -- What is promised of every board that commands reach: demand 3, and what document 01 says of such boards besides.
 -- Waits, IsRing, Quiet, Reached, Later, Deliveries and the other words that come from there are defined in rules/specs/Waits.antt, step and
--- drain in rules/specs/Shape.antt, run and runSheet in rules/specs/Sheet.antt. A `List ℕ` is a sequence of processes and not the paper's
--- list; where sheets are run, it is bytes.
+-- drain in rules/specs/Shape.antt, run and runSheet in rules/specs/Sheet.antt; a process's own list, and that it recorded the ring at the
+-- process's place (OwnRing), in laws/specs/Own.antt. A `List ℕ` is a sequence of processes and not the paper's list; where sheets are run,
+-- it is bytes.
 use mathlib.Core.Path.{_≡_}
 use mathlib.Core.Logic.{_⊎_, _≢_, _↔_}
 use mathlib.Core.Bool.{true, false}
@@ -18,14 +19,16 @@ use Rattle.rules.specs.Board.{processAt, load}
 use Rattle.rules.specs.Shape.{inShape, step, drain}
 use Rattle.rules.specs.Sheet.{run, runSheet}
 use Rattle.rules.specs.Waits.{Holder, Holds, Stands, Waits, Among, IsRing, recorded, Filled, Present, Quiet, Reached, Later, Deliveries, LowestFirst}
+use Rattle.laws.specs.Own.{OwnRing}
 
 -- ---- demand 3
--- "Every recorded ring is a true ring of waits, then and on every later board." Place s is written only by the list that s started
--- (`recording` in rules/specs/Commands.antt), so the ring there begins with s.
+-- "Every recorded ring is a true ring of waits, then and on every later board."
 pub record RingsTrue (b : Board) : Type 0 where
   pub ring : (s : ℕ) → Filled b s → IsRing b (recorded b s)
   pub later : (c : Board) → Later b c → (s : ℕ) → Filled b s → (recorded c s ≡ recorded b s) × IsRing c (recorded b s)
-  pub own : (s : ℕ) → Filled b s → (l : List ℕ) × (recorded b s ≡ s ∷ l)
+  -- the ring at the place of s begins with s, and it was the own list of s that recorded it
+  pub first : (s : ℕ) → Filled b s → (l : List ℕ) × (recorded b s ≡ s ∷ l)
+  pub own : (s : ℕ) → Filled b s → OwnRing s b
 
 -- "If only deliveries follow, in any order, each message present can be delivered, and after at most 1,920 deliveries none is left."
 -- While a message is present, a run of deliveries can go on, and no run is longer than 1,920. The empty run is one, so this speaks of b too.
@@ -42,9 +45,9 @@ abbrev pub Notes : Board → ℕ → ℕ → Mode → Type 0
 Notes b p o m = processAt b p .wait ≡ Waiting o m
 
 -- "Then every ring of waits that exists holds a process whose own list recorded a ring, and homes and objects agree on who holds
--- and who waits." Homes are those of processes. Where place s is filled, it was s's own list that recorded.
+-- and who waits." Homes are those of processes.
 pub record AtRest (b : Board) : Type 0 where
-  pub found : (l : List ℕ) → IsRing b l → (s : ℕ) × Among s l × Filled b s
+  pub found : (l : List ℕ) → IsRing b l → (s : ℕ) × Among s l × Filled b s × OwnRing s b
   pub agreeHolds : (p o : ℕ) (m : Mode) → Holds b p o m ↔ Holder b o p m
   pub agreeWaits : (p o : ℕ) (m : Mode) → Notes b p o m ↔ ((k : ℕ) × Stands b o k p m)
 
