@@ -1,21 +1,23 @@
--- The tests of a head that was read from a sheet: for the head of the sheet these are the reader's tests.
-use Prim.Native.Nat.{ℕ}
+-- The reader's tests, over the length of a sheet and what the pass over it found.
+use Prim.Native.Nat.{ℕ, _-_, _/_, _%_}
 use mathlib.Core.Bool.{Bool, not}
-use mathlib.Core.List.{List, _∷_}
+use mathlib.Core.List.{List, [], _∷_}
 use lib.Dec.{eqb, ltb}
-use lib.ListN.{length, drop}
 use Rattle.rules.specs.declared.Answer.{Answer}
-use Rattle.rules.specs.declared.Answer.the-variants.{HomeOutside, SheetCut, WrongForm, SpareBit}
+use Rattle.rules.specs.declared.Answer.the-variants.{HomeOutside, SheetCut, WrongForm, SpareBit, OddByte, TooManyCommands}
 use Rattle.rules.specs.Commands.{homeOutside}
-use Rattle.reader.specs.declared.Head.{Head}
-use Rattle.sheet.specs.Part.{partTests}
+use Rattle.reader.specs.declared.Found.{Found}
 
--- the tests in order, for a head that was read from the sheet s
-abbrev pub headTests : List ℕ → Head → List (Bool × Answer)
-headTests s h = (ltb (length s) 2, SheetCut)
+-- "15, 16, 14 (commands)": of l bytes of commands, where a spare bit is set in one of them or in none
+abbrev pub partTests : ℕ → Bool → List (Bool × Answer)
+partTests l spare = (eqb (l % 2) 1, OddByte) ∷ (ltb 4096 (l / 2), TooManyCommands) ∷ (spare, SpareBit) ∷ []
+
+-- the tests in order, of a sheet of l bytes
+abbrev pub sheetTests : ℕ → Found → List (Bool × Answer)
+sheetTests l h = (ltb l 2, SheetCut)
     ∷ (not (eqb (h .form) 1), WrongForm)
     ∷ (not (eqb (h .spare) 0), SpareBit)
-    ∷ (ltb (length s) (h .start), SheetCut)
+    ∷ (ltb l (h .start), SheetCut)
     ∷ (homeOutside (h .nodes) (h .processes) (h .«process_home»), HomeOutside)
     ∷ (homeOutside (h .nodes) (h .objects) (h .«object_home»), HomeOutside)
-    ∷ (not (eqb (h .«homes_spare») 0), SpareBit) ∷ partTests (drop (h .start) s)
+    ∷ (not (eqb (h .«homes_spare») 0), SpareBit) ∷ partTests (l - h .start) (h .«commands_spare»)
