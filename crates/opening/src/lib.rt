@@ -3,6 +3,7 @@ ghost use mathlib.Core.Path.{_≡_};
 ghost use lib.Dec.{ltb};
 ghost use Rattle.rules.specs.Tables.{pick};
 ghost use Rattle.rules.specs.Answers.{firstOf};
+ghost use Rattle.rules.specs.Board.{noProcess, noObject};
 ghost use Rattle.rules.specs.Commands.{homesOf, emptyBoard, zeroBoard, openingTests, opening};
 use rules::Answer;
 use rules::Board;
@@ -68,6 +69,32 @@ pub fn answer(
     Answer::Done
 }
 
+// The book of a process that holds nothing, waits for nothing and has not released.
+fn no_process() -> Process
+    ensures { λ r. ⌜ r ≡ noProcess ⌝ }
+{
+    Process {
+        shared: 0,
+        exclusive: 0,
+        wait: Wait::NotWaiting,
+        released: false,
+    }
+}
+
+// The book of an object that nobody holds and nobody waits for.
+fn no_object() -> Object
+    ensures { λ r. ⌜ r ≡ noObject ⌝ }
+{
+    Object {
+        shared: 0,
+        exclusive: 0,
+        line: [0; 16],
+        line_exclusive: 0,
+        line_count: 0,
+    }
+}
+
+// "An opening has empty books and no message."
 fn empty_board(
     nodes: u8,
     processes: u8,
@@ -77,19 +104,8 @@ fn empty_board(
 ) -> Board
     ensures { λ r. ⌜ r ≡ emptyBoard nodes processes objects «process_home» «object_home» ⌝ }
 {
-    let process = Process {
-        shared: 0,
-        exclusive: 0,
-        wait: Wait::NotWaiting,
-        released: false,
-    };
-    let object = Object {
-        shared: 0,
-        exclusive: 0,
-        line: [0; 16],
-        line_exclusive: 0,
-        line_count: 0,
-    };
+    let process = no_process();
+    let object = no_object();
     let none = values::message::no_entries();
     let ring = Ring {
         processes: [0; 16],
