@@ -1,19 +1,18 @@
--- The homes of an opening: each of the first is a node, and those past the count are zero.
+-- The counts of an opening, and its homes: those past the count are zero.
 use mathlib.Core.Path.{_≡_, refl, sym, ap, _∙_}
 use mathlib.Core.Logic.{_≢_}
 use mathlib.Core.Bool.{Bool, true}
 use mathlib.Core.List.{List}
 use Prim.Native.Nat.{ℕ, _+_, _≤_, _<_}
 use native.Mathlib.Omega.{arith}
-use native.Mathlib.Numerals.{add-one}
 use native.Mathlib.Decide.{ℕ-discrete, decLt}
 use borrow.Author.Tests.{lt-ltb, le-ltb, leb-true}
 use lib.Dec.{ltb, leb}
 use lib.ListN.{getD, set, length, length-set, replicate}
 use lib.Seq.{ext-getD, getD-set-same, getD-set-other}
-use Rattle.rules.specs.Tables.{pick, rows, all}
-use Rattle.rules.specs.Commands.{countFits, homesOf}
-use Rattle.rules.proofs.Tables.{rows-at, rows-length, both, both-right}
+use Rattle.rules.specs.Tables.{pick, rows}
+use Rattle.rules.specs.Commands.{countFits, homesOf, homeOutside}
+use Rattle.rules.proofs.Tables.{rows-at, rows-length, both-right}
 
 -- ---- counts
 pub count-most : (n top : ℕ) → countFits n top ≡ true → n ≤ top
@@ -22,18 +21,9 @@ count-most n top e = leb-true n top (both-right (ltb 0 n) (leb n top) e)
 pub most-16 : (c : ℕ) → pick (ltb c 16) c 16 ≤ 16
 most-16 c = elim (decLt c 16) [ yes l ↦ rw (lt-ltb c 16 l) (omega arith) | no f ↦ rw (le-ltb c 16 (omega (arith, f))) (omega arith) ]
 
--- ---- the test
-module _ (hs : List ℕ) (n : ℕ) where
-  abbrev pub isNode : ℕ → Bool
-  isNode k = ltb (getD hs k 0) n
-
-  pub none-yet : all 0 isNode ≡ true
-  unfolding all
-  none-yet = refl
-
-  pub one-more : (k : ℕ) → all k isNode ≡ true → getD hs k 0 < n → all (k + 1) isNode ≡ true
-  unfolding all
-  one-more k e h = rw add-one (both (all k isNode) (isNode k) e (lt-ltb (getD hs k 0) n h))
+-- ---- the test of the homes, whose counts are made wide
+pub outside-is : (hs : List ℕ) {n c k m : ℕ} {t : Bool} → k ≡ c → m ≡ n → t ≡ homeOutside m k hs → homeOutside n c hs ≡ t
+outside-is hs e f g = rw (sym e, sym f) (sym g)
 
 -- ---- the homes that are kept
 module _ (hs : List ℕ) where

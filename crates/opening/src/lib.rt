@@ -1,10 +1,9 @@
 // An opening: counts and homes are tested, books and messages are empty.
 ghost use mathlib.Core.Path.{_≡_};
-ghost use Prim.Native.Nat.{_≤_};
 ghost use lib.Dec.{ltb};
-ghost use lib.ListN.{getD};
-ghost use Rattle.rules.specs.Tables.{all, pick};
+ghost use Rattle.rules.specs.Tables.{pick};
 ghost use Rattle.rules.specs.Answers.{firstOf};
+ghost use Rattle.rules.specs.Board.{noProcess, noObject};
 ghost use Rattle.rules.specs.Commands.{homesOf, emptyBoard, zeroBoard, openingTests, opening};
 use rules::Answer;
 use rules::Board;
@@ -17,22 +16,7 @@ use rules::Stepped;
 use rules::Wait;
 use values::bits::wide;
 use values::count::count_fits;
-
-// Each of the first `count` homes is a node.
-fn homes_fit(homes: [u8; 16], count: u8, nodes: u8) -> bool
-    requires { ⌜ count ≤ 16 ⌝ }
-    ensures { λ r. ⌜ r ≡ all count (λ k. ltb (getD homes k 0) nodes) ⌝ }
-{
-    let n = wide(count);
-    let mut k: usize = 0;
-    while k < n {
-        if nodes <= homes[k] {
-            return false;
-        }
-        k += 1;
-    }
-    true
-}
+use values::homes::home_outside;
 
 fn at_most_16(count: u8) -> usize
     ensures { λ r. ⌜ r ≡ pick (ltb count 16) count 16 ⌝ }
@@ -76,15 +60,41 @@ pub fn answer(
     if !count_fits(objects, 16) {
         return Answer::CountOutside;
     }
-    if !homes_fit(process_home, processes, nodes) {
+    if home_outside(process_home, wide(processes), wide(nodes)) {
         return Answer::HomeOutside;
     }
-    if !homes_fit(object_home, objects, nodes) {
+    if home_outside(object_home, wide(objects), wide(nodes)) {
         return Answer::HomeOutside;
     }
     Answer::Done
 }
 
+// The book of a process that holds nothing, waits for nothing and has not released.
+fn no_process() -> Process
+    ensures { λ r. ⌜ r ≡ noProcess ⌝ }
+{
+    Process {
+        shared: 0,
+        exclusive: 0,
+        wait: Wait::NotWaiting,
+        released: false,
+    }
+}
+
+// The book of an object that nobody holds and nobody waits for.
+fn no_object() -> Object
+    ensures { λ r. ⌜ r ≡ noObject ⌝ }
+{
+    Object {
+        shared: 0,
+        exclusive: 0,
+        line: [0; 16],
+        line_exclusive: 0,
+        line_count: 0,
+    }
+}
+
+// "An opening has empty books and no message."
 fn empty_board(
     nodes: u8,
     processes: u8,
@@ -94,19 +104,8 @@ fn empty_board(
 ) -> Board
     ensures { λ r. ⌜ r ≡ emptyBoard nodes processes objects «process_home» «object_home» ⌝ }
 {
-    let process = Process {
-        shared: 0,
-        exclusive: 0,
-        wait: Wait::NotWaiting,
-        released: false,
-    };
-    let object = Object {
-        shared: 0,
-        exclusive: 0,
-        line: [0; 16],
-        line_exclusive: 0,
-        line_count: 0,
-    };
+    let process = no_process();
+    let object = no_object();
     let none = values::message::no_entries();
     let ring = Ring {
         processes: [0; 16],

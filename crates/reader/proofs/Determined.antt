@@ -8,20 +8,22 @@ use prog.Wp.{Heap}
 use ghost.Atoms.{Atoms}
 use contract.Monad.{Fun}
 use denote.Ref.{RefT}
-use Prim.Native.Nat.{ℕ, _+_, _*_}
+use Prim.Native.Nat.{ℕ, _+_, _*_, _/_}
+use mathlib.Core.Bool.{Bool}
 use mathlib.Core.List.{List}
-use lib.ListN.{drop}
+use lib.ListN.{length, drop}
 use denote.Triple.Clauses.{Ended, Clauses}
 use Rattle.rules.specs.Sheet as Sheet
 use Rattle.rules.specs.Determined.{View, Determined}
 use Rattle.rules.proofs.Determined.{Given, Says, by-fact, by-equation, by-equations}
 use Rattle.reader.specs.Place as Place
-use Rattle.reader.specs.Head as Head
+use Rattle.reader.specs.Found as Found
 use Rattle.reader.proofs.new as new
 use Rattle.reader.proofs.read as read
 use Rattle.reader.proofs.homes as homes
 use Rattle.reader.proofs.rest as rest
-use Rattle.reader.proofs.read_head as read-head
+use Rattle.reader.proofs.commands as commands
+use Rattle.reader.proofs.read_sheet as read-sheet
 use Rattle.reader.proofs.rest_from as rest-from
 
 -- what is read, the sheet, and where the reading place stands then
@@ -41,11 +43,14 @@ module _ {M : Type 1} (𝓤 : URA M) (H : Heap 𝓤) (A : Atoms 𝓤) (mem : Mem
   pub homes-determined : Determined homes.ended (homes.clauses 𝓤 H A mem run) {S = List ℕ × RefT (List ℕ) × ℕ} (λ κs r e. (r, e .0 .now .sheet, e .0 .now .at))
   homes-determined = moved (λ κs a. Sheet.homesFrom (a .0 .now .sheet .now) (a .0 .now .at) (Place.within (a .0 .now .at) (a .1 .0))) (λ κs a. a .0 .now .sheet) (λ κs a. a .0 .now .at + 3 * Place.within (a .0 .now .at) (a .1 .0)) (λ κs a g r e. refl)
 
+  pub commands-determined : Determined commands.ended (commands.clauses 𝓤 H A mem run) {S = Bool × RefT (List ℕ) × ℕ} (λ κs r e. (r, e .0 .now .sheet, e .0 .now .at))
+  commands-determined = moved (λ κs a. Sheet.anySpare (drop (a .0 .now .at / 8) (a .0 .now .sheet .now)) (Place.commandsWithin (length (a .0 .now .sheet .now)) (a .0 .now .at) (a .1 .0))) (λ κs a. a .0 .now .sheet) (λ κs a. a .0 .now .at + 16 * Place.commandsWithin (length (a .0 .now .sheet .now)) (a .0 .now .at) (a .1 .0)) (λ κs a g r e. refl)
+
   pub rest-determined : Determined rest.ended (rest.clauses 𝓤 H A mem run) (λ κs r e. r .now)
   rest-determined = by-equation (λ κs a. drop (Place.byteUp (a .0 .at)) (a .0 .sheet .now)) (λ κs a g r e. refl)
 
-  pub read-head-determined : Determined read-head.ended (read-head.clauses 𝓤 H A mem run) (λ κs r e. r)
-  read-head-determined = by-equation (λ κs a. Head.headOf (a .0 .now)) (λ κs a g r e. refl)
+  pub read-sheet-determined : Determined read-sheet.ended (read-sheet.clauses 𝓤 H A mem run) (λ κs r e. r)
+  read-sheet-determined = by-equation (λ κs a. Found.foundIn (a .0 .now)) (λ κs a g r e. refl)
 
   pub rest-from-determined : Determined rest-from.ended (rest-from.clauses 𝓤 H A mem run) (λ κs r e. r .now)
   rest-from-determined = by-equation (λ κs a. drop (Place.byteUp (a .1 .0)) (a .0 .now)) (λ κs a g r e. refl)

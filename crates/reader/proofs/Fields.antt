@@ -36,6 +36,13 @@ whole-byte s at i e h = field-in-byte s at 8 (omega arith) ∙ rw (place, down) 
     down : 8 - at % 8 - 8 ≡ 0
     down = omega arith
 
+-- two bytes
+pub two-bytes : (s : List ℕ) (i : ℕ) → getD s i 0 < 256 → getD s (i + 1) 0 < 256 → 256 * getD s i 0 + getD s (i + 1) 0 ≡ field s (8 * i) 16
+two-bytes s i h l =
+    let first : field s (8 * i) 8 ≡ getD s i 0 = whole-byte s (8 * i) i refl h in
+    let second : field s (8 * i + 8) 8 ≡ getD s (i + 1) 0 = whole-byte s (8 * i + 8) (i + 1) (omega arith) l in
+    omega (arith, field-split s (8 * i) 8 8)
+
 -- three bytes
 module _ (s : List ℕ) (i : ℕ) (h : getD s i 0 < 256) (m : getD s (i + 1) 0 < 256) (l : getD s (i + 2) 0 < 256) where
   three-bytes : field s (8 * i) 24 ≡ 65536 * getD s i 0 + 256 * getD s (i + 1) 0 + getD s (i + 2) 0

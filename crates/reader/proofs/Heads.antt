@@ -1,15 +1,19 @@
--- The head of a sheet, put together from what was read, and the bounds under which each part of it is read. Assumes nothing.
-use mathlib.Core.Path.{_≡_, ap, _∙_}
+-- What the pass over a sheet finds, put together from what was read, and the bounds under which each part of it is read. Assumes nothing.
+use mathlib.Core.Path.{_≡_, sym, ap, ap₂, _∙_}
+use mathlib.Core.Bool.{Bool}
 use mathlib.Core.List.{List}
 use Prim.Native.Nat.{ℕ, _+_, _-_, _*_, _/_, _%_, _^_, _≤_, _<_}
 use native.Mathlib.Nat.{lt-of-le-of-lt, div-le-self, mod-le}
 use native.Mathlib.Omega.{arith}
-use Rattle.rules.specs.Sheet.{field, homesFrom}
+use lib.Dec.{lit≤}
+use lib.ListN.{length, drop, length-drop}
+use Rattle.rules.specs.Sheet.{field, homesFrom, anySpare}
 use Rattle.rules.proofs.Sheet.{field-below}
-use Rattle.reader.specs.declared.Head.{Head}
-use Rattle.reader.specs.Place.{leftAt}
-use Rattle.reader.specs.Head.{headOf}
+use Rattle.reader.specs.declared.Found.{Found}
+use Rattle.reader.specs.Place.{leftAt, least, commandsWithin}
+use Rattle.reader.specs.Found.{foundIn}
 use Rattle.reader.proofs.Fields.{field-inside}
+use Rattle.reader.proofs.Spared.{as-many}
 
 -- ---- the counts that a header of 16 bits stands for, and the bit after the homes
 abbrev pub nodesIn : ℕ → ℕ
@@ -64,8 +68,8 @@ start-fits h g = omega arith
 ends : {a e j : ℕ} → a ≡ e → j ≡ leftAt a → (j ≡ 8 * ((e + 7) / 8) - e) × ((a + j) / 8 ≡ (e + 7) / 8)
 ends z f = (omega arith, omega arith)
 
-abbrev pub found : ℕ → ℕ → ℕ → ℕ → ℕ → List ℕ → List ℕ → ℕ → ℕ → Head
-found f n p o x hp ho y t = record {
+abbrev pub found : ℕ → ℕ → ℕ → ℕ → ℕ → List ℕ → List ℕ → ℕ → ℕ → Bool → Found
+found f n p o x hp ho y t z = record {
   form = f;
   nodes = n;
   processes = p;
@@ -75,31 +79,54 @@ found f n p o x hp ho y t = record {
   «object_home» = ho;
   «homes_spare» = y;
   start = t;
+  «commands_spare» = z;
 }
 
--- what is read: a header, two rows of homes, and j bits y to the byte's end
-abbrev pub head-read : ℕ → List ℕ → List ℕ → ℕ → ℕ → Head
-head-read h hp ho y j = found (h / 512 / 8) (nodesIn h) (processesIn h) (objectsIn h) (h % 2) hp ho y ((endIn h + j) / 8)
+-- what is read: a header, two rows of homes, j bits y to the byte's end, and whether a command has a spare bit set
+abbrev pub sheet-read : ℕ → List ℕ → List ℕ → ℕ → ℕ → Bool → Found
+sheet-read h hp ho y j z = found (h / 512 / 8) (nodesIn h) (processesIn h) (objectsIn h) (h % 2) hp ho y ((endIn h + j) / 8) z
 
--- the parts of a head, each where the header or the homes have it
-module _ (s : List ℕ) {f n p o x y : ℕ} {hp ho : List ℕ} where
-  head-of : f ≡ field s 0 4 → n ≡ field s 4 3 → p ≡ field s 7 4 → o ≡ field s 11 4 → x ≡ field s 15 1
-      → hp ≡ homesFrom s 16 (p + 1) → ho ≡ homesFrom s (16 + 3 * (p + 1)) (o + 1)
-      → y ≡ field s (16 + 3 * (p + 1 + (o + 1))) (8 * ((16 + 3 * (p + 1 + (o + 1)) + 7) / 8) - (16 + 3 * (p + 1 + (o + 1))))
-      → found f (n + 1) (p + 1) (o + 1) x hp ho y ((16 + 3 * (p + 1 + (o + 1)) + 7) / 8) ≡ headOf s
-  head-of ef en ep eo ex ehp eho ey = rw (ehp, eho, ey, ef, en, ep, eo, ex)
+-- the bit after the homes of p + 1 processes and o + 1 objects, and the byte at which the commands start
+abbrev end : ℕ → ℕ → ℕ
+end p o = 16 + 3 * (p + 1 + (o + 1))
 
-  -- what was read one after the other, the last of it j bits to the byte's end, is the head
-  head-parts : {j : ℕ} → f ≡ field s 0 4 → n ≡ field s 4 3 → p ≡ field s 7 4 → o ≡ field s 11 4 → x ≡ field s 15 1
+abbrev start : ℕ → ℕ → ℕ
+start p o = (end p o + 7) / 8
+
+-- the commands from byte a on: those that there are, 4,096 at most
+module _ (s : List ℕ) (a : ℕ) where
+  spare-of-part : Bool
+  spare-of-part = anySpare (drop a s) (least 4096 (length (drop a s) / 2))
+
+  part-read : {at : ℕ} {z : Bool} → at ≤ 4294967296 → at ≡ 8 * a → z ≡ anySpare (drop (at / 8) s) (commandsWithin (length s) at 4096) → z ≡ spare-of-part
+  unfolding spare-of-part
+  part-read {at} near e g =
+      g ∙ ap₂ (λ (b m : ℕ). anySpare (drop b s) m) byte (as-many (length s) at 4096 (lit≤ tt) near (omega arith) ∙ rw (byte, length-drop a s))
+    where
+      byte : at / 8 ≡ a
+      byte = omega arith
+
+-- the parts, each where the header, the homes or the commands have it
+module _ (s : List ℕ) {f n p o x y : ℕ} {hp ho : List ℕ} {z : Bool} where
+  found-of : f ≡ field s 0 4 → n ≡ field s 4 3 → p ≡ field s 7 4 → o ≡ field s 11 4 → x ≡ field s 15 1
+      → hp ≡ homesFrom s 16 (p + 1) → ho ≡ homesFrom s (16 + 3 * (p + 1)) (o + 1) → y ≡ field s (end p o) (8 * start p o - end p o)
+      → z ≡ spare-of-part s (start p o) → found f (n + 1) (p + 1) (o + 1) x hp ho y (start p o) z ≡ foundIn s
+  unfolding spare-of-part
+  found-of ef en ep eo ex ehp eho ey ez = rw (ehp, eho, ey, ez, ef, en, ep, eo, ex)
+
+  -- what was read one after the other, j bits to the byte's end among it, is what is found
+  found-parts : {j : ℕ} → f ≡ field s 0 4 → n ≡ field s 4 3 → p ≡ field s 7 4 → o ≡ field s 11 4 → x ≡ field s 15 1
       → hp ≡ homesFrom s 16 (p + 1) → ho ≡ homesFrom s (16 + 3 * (p + 1)) (o + 1)
       → j ≡ leftAt (16 + 3 * (p + 1) + 3 * (o + 1)) → y ≡ field s (16 + 3 * (p + 1) + 3 * (o + 1)) j
-      → found f (n + 1) (p + 1) (o + 1) x hp ho y ((16 + 3 * (p + 1) + 3 * (o + 1) + j) / 8) ≡ headOf s
-  head-parts {j} ef en ep eo ex ehp eho ej ey =
-      let at : 16 + 3 * (p + 1) + 3 * (o + 1) ≡ 16 + 3 * (p + 1 + (o + 1)) = omega arith in
-      let end = ends at ej in
-      let spare : y ≡ field s (16 + 3 * (p + 1 + (o + 1))) (8 * ((16 + 3 * (p + 1 + (o + 1)) + 7) / 8) - (16 + 3 * (p + 1 + (o + 1)))) =
-      ey ∙ ap (λ (a : ℕ). field s a j) at ∙ ap (field s (16 + 3 * (p + 1 + (o + 1)))) (end .0) in
-      ap (found f (n + 1) (p + 1) (o + 1) x hp ho y) (end .1) ∙ head-of ef en ep eo ex ehp eho spare
+      → z ≡ anySpare (drop ((16 + 3 * (p + 1) + 3 * (o + 1) + j) / 8) s) (commandsWithin (length s) (16 + 3 * (p + 1) + 3 * (o + 1) + j) 4096)
+      → found f (n + 1) (p + 1) (o + 1) x hp ho y ((16 + 3 * (p + 1) + 3 * (o + 1) + j) / 8) z ≡ foundIn s
+  found-parts {j} ef en ep eo ex ehp eho ej ey ez =
+      let at : 16 + 3 * (p + 1) + 3 * (o + 1) ≡ end p o = omega arith in
+      let ended = ends at ej in
+      let spare : y ≡ field s (end p o) (8 * start p o - end p o) = ey ∙ ap (λ (a : ℕ). field s a j) at ∙ ap (field s (end p o)) (ended .0) in
+      let near : 16 + 3 * (p + 1) + 3 * (o + 1) + j ≤ 4294967296 = omega (arith, ep, eo, ej, field-below s 7 4, field-below s 11 4) in
+      ap (λ (t : ℕ). found f (n + 1) (p + 1) (o + 1) x hp ho y t z) (ended .1)
+      ∙ found-of ef en ep eo ex ehp eho spare (part-read s (start p o) near (omega (arith, ended .0)) ez)
 
 -- the parts of a header stand inside its 16 bits
 module _ (s : List ℕ) {h : ℕ} (e : h ≡ field s 0 16) where
@@ -118,6 +145,7 @@ module _ (s : List ℕ) {h : ℕ} (e : h ≡ field s 0 16) where
   spare-in : h % 2 ≡ field s 15 1
   spare-in = omega (arith, field-inside s 0 15 1 0)
 
-  pub head-is : {hp ho : List ℕ} {y j : ℕ} → hp ≡ homesFrom s 16 (processesIn h) → ho ≡ homesFrom s (16 + 3 * processesIn h) (objectsIn h)
-      → j ≡ leftAt (endIn h) → y ≡ field s (endIn h) j → head-read h hp ho y j ≡ headOf s
-  head-is = head-parts s form-in nodes-in processes-in objects-in spare-in
+  pub found-is : {hp ho : List ℕ} {y j : ℕ} {z : Bool} → hp ≡ homesFrom s 16 (processesIn h) → ho ≡ homesFrom s (16 + 3 * processesIn h) (objectsIn h)
+      → j ≡ leftAt (endIn h) → y ≡ field s (endIn h) j → z ≡ anySpare (drop ((endIn h + j) / 8) s) (commandsWithin (length s) (endIn h + j) 4096)
+      → sheet-read h hp ho y j z ≡ foundIn s
+  found-is = found-parts s form-in nodes-in processes-in objects-in spare-in

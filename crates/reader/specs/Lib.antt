@@ -1,3 +1,3 @@
 -- Definitions that the contracts of the reading place cite.
 pub mod Place
-pub mod Head
+pub mod Found

@@ -1,13 +1,14 @@
 // A sheet is read through one reading place, which moves on by the bits that are read: the sheet, and the bit that is read next.
 // The work is done on the sheet and a position, in the modules below; the functions over the reading place are thin.
-// Above them stand functions with plain parameters: what a sheet says before its commands, and what follows a bit.
+// Above them stand functions with plain parameters: the whole pass over a sheet, and what follows a bit.
 ghost use mathlib.Core.Path.{_≡_};
-ghost use Prim.Native.Nat.{_+_, _*_};
-ghost use lib.ListN.{drop};
-ghost use Rattle.rules.specs.Sheet.{field, homesFrom};
-ghost use Rattle.reader.specs.Place.{within, byteUp};
-ghost use Rattle.reader.specs.Head.{headOf};
+ghost use Prim.Native.Nat.{_+_, _*_, _/_};
+ghost use lib.ListN.{length, drop};
+ghost use Rattle.rules.specs.Sheet.{field, homesFrom, anySpare};
+ghost use Rattle.reader.specs.Place.{within, commandsWithin, byteUp};
+ghost use Rattle.reader.specs.Found.{foundIn};
 
+mod command;
 mod field;
 mod row;
 mod whole;
@@ -17,8 +18,9 @@ pub struct Reader<'a> {
     pub at: usize,
 }
 
-// What a sheet says before its commands, which start at byte `start`.
-pub struct Head {
+// What the pass over a sheet finds: the header, the homes and their spare bits, the byte at which the commands start, and whether a spare
+// bit is set in one of them.
+pub struct Found {
     pub form: usize,
     pub nodes: usize,
     pub processes: usize,
@@ -28,6 +30,7 @@ pub struct Head {
     pub object_home: [u8; 16],
     pub homes_spare: usize,
     pub start: usize,
+    pub commands_spare: bool,
 }
 
 // The reading place at the sheet's first bit.
@@ -59,6 +62,17 @@ pub fn homes<'s, 'a>(r: &'s mut Reader<'a>, n: usize) -> [u8; 16]
     f.homes
 }
 
+// Reads n commands, or as many as the sheet still has whole, and moves on. Tells whether a spare bit is set in one of them.
+pub fn commands<'s, 'a>(r: &'s mut Reader<'a>, n: usize) -> bool
+    ensures { λ v. ⌜ (v ≡ anySpare (drop (now (r .entry) .at / 8) (now (now (r .entry) .sheet))) (commandsWithin (length (now (now (r .entry) .sheet))) (now (r .entry) .at) n))
+        × (now (r .exit) .sheet ≡ now (r .entry) .sheet)
+        × (now (r .exit) .at ≡ now (r .entry) .at + 16 * commandsWithin (length (now (now (r .entry) .sheet))) (now (r .entry) .at) n) ⌝ }
+{
+    let f = command::spares_at(r.sheet, r.at, n);
+    r.at = f.next;
+    f.set
+}
+
 // What is left, from the next whole byte on.
 pub fn rest<'a>(r: Reader<'a>) -> &'a [u8]
     ensures { λ p. ⌜ now p ≡ drop (byteUp (r .entry .at)) (now (r .entry .sheet)) ⌝ }
@@ -66,10 +80,11 @@ pub fn rest<'a>(r: Reader<'a>) -> &'a [u8]
     whole::tail_at(r.sheet, r.at)
 }
 
-// The header, the homes of the processes and of the objects, and the spare bits to the byte's end, through one reading place.
+// The whole pass, through one reading place: the header, the homes of the processes and of the objects, the spare bits to the byte's end,
+// and the commands, of which a good sheet has 4,096 at most.
 // The header is read as one field, and its five parts are taken out of it: form 4, nodes 3, processes 4, objects 4, spare 1.
-pub fn read_head(s: &[u8]) -> Head
-    ensures { λ r. ⌜ r ≡ headOf (now (s .entry)) ⌝ }
+pub fn read_sheet(s: &[u8]) -> Found
+    ensures { λ r. ⌜ r ≡ foundIn (now (s .entry)) ⌝ }
 {
     let mut r = new(s);
     let header = read(&mut r, 16);
@@ -82,7 +97,9 @@ pub fn read_head(s: &[u8]) -> Head
     let object_home = homes(&mut r, objects);
     let left = whole::left(r.at);
     let homes_spare = read(&mut r, left);
-    Head {
+    let start = r.at / 8;
+    let commands_spare = commands(&mut r, 4096);
+    Found {
         form: form,
         nodes: nodes,
         processes: processes,
@@ -91,7 +108,8 @@ pub fn read_head(s: &[u8]) -> Head
         process_home: process_home,
         object_home: object_home,
         homes_spare: homes_spare,
-        start: r.at / 8,
+        start: start,
+        commands_spare: commands_spare,
     }
 }
 

@@ -9,9 +9,9 @@ use native.Mathlib.Nat.{pow-suc, mul-comm, one-mul, zero-add, div-one, suc-add, 
 use native.Mathlib.Numerals.{one-add}
 use native.Mathlib.Omega.{arith}
 use native.Mathlib.Decide.{ℕ-discrete, decLt}
-use lib.Dec.{eqb, eqb·suc-suc}
+use lib.Dec.{eqb, eqb·suc-suc, eqb·suc-zero}
 use lib.Pow.{shr-shr, pow-lt, pow-pos, shl-exact}
-use lib.Bits.{bitOr, bitAnd, or-step, and-step, and-lt, and-mask}
+use lib.Bits.{bitOr, bitAnd, or-step, and-step, and-lt, and-mask, or-zero-l, or-add-and, and-le-r}
 use lib.Count.{trailingZeros, ones, ones-step}
 use borrow.Author.Tests.{eqb-true, eqb-false, eq-eqb, ne-eqb}
 use Rattle.rules.specs.Tables.{pick, either, countOf, sum}
@@ -383,6 +383,12 @@ taken-or = taken-op bitOr max either or-step or-agrees
 
 pub taken-and : (a b k : ℕ) → taken (bitAnd a b) k ≡ taken a k && taken b k
 taken-and = taken-op bitAnd min (λ x y. x && y) and-step and-agrees
+
+-- two sets put together are empty where both are
+pub or-none : (a b : ℕ) → eqb (bitOr a b) 0 ≡ eqb a 0 && eqb b 0
+or-none zero b = rw or-zero-l
+or-none (suc a) b =
+    rw (ne-eqb (bitOr (suc a) b) 0 (λ z. omega (arith, z, or-add-and (suc a) b, and-le-r (suc a) b)), eqb·suc-zero)
 
 -- the set of one number
 pub with-empty : (k : ℕ) → withBit 0 k ≡ 2 ^ k

@@ -1,16 +1,17 @@
--- Laws of the packed sheet: a field is below its power of two, two fields side by side are one, a field inside one byte is read off that
--- byte, and so a command and its spare bits are read off the command's two bytes. Assumes nothing.
-use mathlib.Core.Path.{_≡_, sym, ap, _∙_}
+-- Laws of the packed sheet: a field is below its power of two, two fields side by side are one, a field of what follows a byte is a field of
+-- the whole, a field inside one byte is read off that byte, and so a command is read off its two bytes. Assumes nothing.
+use mathlib.Core.Path.{_≡_, refl, sym, ap, _∙_}
 use mathlib.Core.List.{List}
 use Prim.Native.Nat.{ℕ, zero, suc, _+_, _-_, _*_, _/_, _%_, _^_, _≤_, _<_}
 use native.Mathlib.Nat.{mod-one, mul-left-comm, add-zero, add-suc, add-assoc}
 use native.Mathlib.Numerals.{add-one}
 use native.Mathlib.Omega.{arith}
-use lib.ListN.{getD}
+use lib.ListN.{getD, drop}
+use lib.Seq.{getD-drop}
 use lib.Pow.{shr-shr, mod-pow-add}
 use Rattle.rules.specs.declared.Command.{Command}
 use Rattle.rules.specs.declared.Command.the-variants as Do
-use Rattle.rules.specs.Sheet.{bitAt, field, byKind, commandAt, commandSpare}
+use Rattle.rules.specs.Sheet.{bitAt, field, byKind, commandAt}
 use Rattle.rules.proofs.Bits.{two-pow}
 
 -- ---- fields
@@ -31,6 +32,18 @@ field-split s at a (suc b) =
   where
     longer : (v p u : ℕ) {w q x y : ℕ} → w ≡ v * p + u → x ≡ y → q ≡ 2 * p → 2 * w + x ≡ v * q + (2 * u + y)
     longer v p u e f g = rw (e, f, g, mul-left-comm v 2 p) (omega arith)
+
+-- a field of what follows byte a
+pub field-drop : (s : List ℕ) (a at n : ℕ) → field (drop a s) at n ≡ field s (8 * a + at) n
+unfolding field
+field-drop s a at zero = refl
+field-drop s a at (suc n) = rw (field-drop s a at n, getD-drop a s ((at + n) / 8) 0, byte, place)
+  where
+    byte : a + (at + n) / 8 ≡ (8 * a + at + n) / 8
+    byte = omega arith
+
+    place : (at + n) % 8 ≡ (8 * a + at + n) % 8
+    place = omega arith
 
 -- ---- bytes
 next-digit : (x n : ℕ) → x % 2 ^ suc n ≡ 2 * (x / 2 % 2 ^ n) + x % 2
@@ -84,27 +97,14 @@ module _ (s : List ℕ) (i : ℕ) where
       let low : field s (16 * i + 6 + 2) 2 ≡ getD s (2 * i + 1) 0 / 2 ^ 6 % 2 ^ 2 = within s (16 * i + 6 + 2) 2 (2 * i + 1) 6 (omega arith) (omega arith) in
       field-split s (16 * i + 6) 2 2 ∙ omega arith
 
-  six-spare : field s (16 * i + 10) 6 ≡ getD s (2 * i + 1) 0 % 64
-  six-spare = within s (16 * i + 10) 6 (2 * i + 1) 0 (omega arith) (omega arith) ∙ omega arith
-
-  eight-spare : getD s (2 * i + 1) 0 < 256 → field s (16 * i + 8) 8 ≡ getD s (2 * i + 1) 0
-  eight-spare lo = within s (16 * i + 8) 8 (2 * i + 1) 0 (omega arith) (omega arith) ∙ omega arith
-
--- the command that two bytes stand for, and its spare bits
+-- the command that two bytes stand for
 abbrev pub ofBytes : ℕ → ℕ → Command
 ofBytes hi lo =
     let p = hi / 4 % 16 in
     let o = hi % 4 * 4 + lo / 64 in
     byKind (hi / 64) (Do.Request p o (hi / 64)) (Do.Release p o) (Do.Deliver (hi % 64))
 
-abbrev pub spareOfBytes : ℕ → ℕ → ℕ
-spareOfBytes hi lo = byKind (hi / 64) (lo % 64) (lo % 64) lo
-
 module _ (s : List ℕ) (i : ℕ) (hi : getD s (2 * i) 0 < 256) (lo : getD s (2 * i + 1) 0 < 256) where
   pub command-bytes : commandAt s i ≡ ofBytes (getD s (2 * i) 0) (getD s (2 * i + 1) 0)
   unfolding commandAt
   command-bytes = rw (kind-byte s i hi, process-byte s i, object-bytes s i lo, message-byte s i)
-
-  pub spare-bytes : commandSpare s i ≡ spareOfBytes (getD s (2 * i) 0) (getD s (2 * i + 1) 0)
-  unfolding commandSpare
-  spare-bytes = rw (kind-byte s i hi, six-spare s i, eight-spare s i lo)

@@ -6,6 +6,7 @@ use mathlib.Core.Bool.{Bool, true, false, _&&_}
 use mathlib.Core.List.{List, [], _∷_, _++_, map}
 use Prim.Native.Nat.{ℕ, zero, suc, _+_, _*_, _≤_, _<_}
 use native.Mathlib.Nat.{suc-mul}
+use native.Mathlib.Numerals.{add-one}
 use native.Mathlib.Omega.{arith}
 use native.Mathlib.Decide.{ℕ-discrete, decLt}
 use lib.Dec.{eqb, ltb}
@@ -347,6 +348,14 @@ all-fails (suc n) t e = by-test (t n)
 
 pub all-fail : (n : ℕ) (t : ℕ → Bool) (k : ℕ) → k < n → t k ≡ false → all n t ≡ false
 all-fail n t k h e = not-passed (all n t) (λ z. true-not-false (sym (all-at n t z k h) ∙ e))
+
+-- a loop that tests every place: one more is passed, and the loop ends at the last
+pub all-next : (k : ℕ) (t : ℕ → Bool) → all k t ≡ true → t k ≡ true → all (k + 1) t ≡ true
+unfolding all
+all-next k t h e = rw (add-one, h, e)
+
+pub all-end : {k n : ℕ} (t : ℕ → Bool) → all k t ≡ true → k ≤ n → n ≤ k → all n t ≡ true
+all-end {k} {n} t h l g = let z : n ≡ k = omega arith in rw z h
 
 pub all-ext : (n : ℕ) (t u : ℕ → Bool) → ((k : ℕ) → k < n → t k ≡ u k) → all n t ≡ all n u
 unfolding all

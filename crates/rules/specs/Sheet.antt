@@ -80,6 +80,10 @@ commandAt s i =
 unfoldable pub commandSpare : List ℕ → ℕ → ℕ
 commandSpare s i = let six = field s (16 * i + 10) 6 in byKind (kindOf s i) six six (field s (16 * i + 8) 8)
 
+-- a spare bit is set in one of the first n commands
+abbrev pub anySpare : List ℕ → ℕ → Bool
+anySpare s n = not (all n (λ i. eqb (commandSpare s i) 0))
+
 -- whole commands
 abbrev pub commandCount : List ℕ → ℕ
 commandCount s = length s / 2
@@ -143,7 +147,7 @@ readerTests s = (ltb (length s) 2, SheetCut)
     ∷ (not (eqb (homesSpare s) 0), SpareBit)
     ∷ (eqb (length (afterHomes s) % 2) 1, OddByte)
     ∷ (ltb 4096 (commandCount (afterHomes s)), TooManyCommands)
-    ∷ (not (all (commandCount (afterHomes s)) (λ i. eqb (commandSpare (afterHomes s) i) 0)), SpareBit) ∷ []
+    ∷ (anySpare (afterHomes s) (commandCount (afterHomes s)), SpareBit) ∷ []
 
 unfoldable pub readerAnswer : List ℕ → Answer
 readerAnswer s = firstOf (readerTests s)

@@ -1,6 +1,4 @@
 -- Laws that the reader's proofs share.
-pub mod Tests
-pub mod Spare
 pub mod Order
 pub mod Parts
 pub mod Runs

@@ -1,6 +1,6 @@
 -- An input longer than any sheet: what is kept of it is refused as the whole is. Assumes nothing.
 use mathlib.Core.Path.{_≡_, refl, sym, ap, _∙_}
-use mathlib.Core.Bool.{false}
+use mathlib.Core.Bool.{Bool, false}
 use mathlib.Core.List.{List}
 use Prim.Native.Nat.{ℕ, zero, suc, _+_, _-_, _*_, _/_, _%_, _≤_}
 use native.Mathlib.Omega.{arith}
@@ -17,13 +17,27 @@ use Rattle.rules.specs.Commands.{zeroBoard}
 use Rattle.rules.specs.Sheet.{field, processesOf, objectsOf, homesEnd, commandsStart, homesFrom, readerAnswer, refusedRun, runSheet}
 use Rattle.rules.proofs.Tables.{not-passed, rows-ext}
 use Rattle.rules.proofs.Sheet.{field-below}
-use Rattle.reader.specs.declared.Head.{Head}
-use Rattle.reader.specs.Head.{headOf}
-use Rattle.sheet.specs.Part.{partTests}
-use Rattle.sheet.specs.Head.{headTests}
+use Rattle.reader.specs.declared.Found.{Found}
+use Rattle.reader.specs.Found.{foundIn}
+use Rattle.sheet.specs.Refusals.{partTests, sheetTests}
 use Rattle.sheet.specs.Kept.{keptOf}
 use Rattle.sheet.proofs.Order.{early-start, from-start}
 use Rattle.sheet.proofs.Runs.{tests-passed, refuses}
+
+-- what was found, with another word on the commands
+abbrev again : Found → Bool → Found
+again h t = record {
+  form = h .form;
+  nodes = h .nodes;
+  processes = h .processes;
+  objects = h .objects;
+  spare = h .spare;
+  «process_home» = h .«process_home»;
+  «object_home» = h .«object_home»;
+  «homes_spare» = h .«homes_spare»;
+  start = h .start;
+  «commands_spare» = t;
+}
 
 -- ---- the first k bytes alone
 module _ (w : List ℕ) (k : ℕ) where
@@ -36,7 +50,8 @@ module _ (w : List ℕ) (k : ℕ) where
   unfolding homesFrom
   homes-front at n h = rows-ext 16 _ _ (λ j l. ap (λ (x : ℕ). pick (ltb j n) x 0) (field-front (at + 3 * j) 3 (omega arith)))
 
-  head-front : 15 ≤ k → headOf (take k w) ≡ headOf w
+  -- what is found there is what is found in the whole, but for the commands
+  head-front : 15 ≤ k → foundIn (take k w) ≡ again (foundIn w) (foundIn (take k w) .«commands_spare»)
   head-front h = rw (
     field-front 0 4 (omega arith),
     field-front 4 3 (omega arith),
@@ -49,18 +64,18 @@ module _ (w : List ℕ) (k : ℕ) where
   )
 
 -- ---- a part that is too long for 4,096 commands
-long-part : (p : List ℕ) → 8193 ≤ length p → firstOf (partTests p) ≡ pick (eqb (length p % 2) 1) OddByte TooManyCommands
+long-part : (l : ℕ) (t : Bool) → 8193 ≤ l → firstOf (partTests l t) ≡ pick (eqb (l % 2) 1) OddByte TooManyCommands
 unfolding firstOf
-long-part p h = elim (ℕ-discrete (length p % 2) 1) [
-  | yes e ↦ rw (eq-eqb (length p % 2) 1 e)
-  | no f ↦ rw (ne-eqb (length p % 2) 1 f, lt-ltb 4096 (length p / 2) (omega (arith, f)))
+long-part l t h = elim (ℕ-discrete (l % 2) 1) [
+  | yes e ↦ rw (eq-eqb (l % 2) 1 e)
+  | no f ↦ rw (ne-eqb (l % 2) 1 f, lt-ltb 4096 (l / 2) (omega (arith, f)))
 ]
 
--- ---- the tests of two inputs with one head
-heads-same : (x y : List ℕ) (h : Head) → ltb (length x) 2 ≡ ltb (length y) 2 → ltb (length x) (h .start) ≡ ltb (length y) (h .start)
-    → firstOf (partTests (drop (h .start) x)) ≡ firstOf (partTests (drop (h .start) y)) → firstOf (headTests x h) ≡ firstOf (headTests y h)
+-- ---- the tests of two inputs that agree before the commands
+heads-same : (l m : ℕ) (h : Found) (t : Bool) → ltb l 2 ≡ ltb m 2 → ltb l (h .start) ≡ ltb m (h .start)
+    → firstOf (partTests (l - h .start) t) ≡ firstOf (partTests (m - h .start) (h .«commands_spare»)) → firstOf (sheetTests l (again h t)) ≡ firstOf (sheetTests m h)
 unfolding firstOf
-heads-same x y h e f g = rw (e, f, g)
+heads-same l m h t e f g = rw (e, f, g)
 
 -- ---- a long input, and what is kept of it
 module _ (w : List ℕ) (long : 8207 ≤ length w) where
@@ -73,25 +88,26 @@ module _ (w : List ℕ) (long : 8207 ≤ length w) where
   kept-length : length kept ≡ 8208 - length w % 2
   kept-length = length-take-le (keptOf (length w)) w (omega (arith, kept-is)) ∙ kept-is
 
-  same-head : headOf kept ≡ headOf w
+  abbrev word : Bool
+  word = foundIn kept .«commands_spare»
+
+  same-head : foundIn kept ≡ again (foundIn w) word
   same-head = head-front w (keptOf (length w)) (omega (arith, kept-is))
 
   abbrev start : ℕ
   start = commandsStart w
 
-  same-part : firstOf (partTests (drop start kept)) ≡ firstOf (partTests (drop start w))
+  same-part : firstOf (partTests (length kept - start) word) ≡ firstOf (partTests (length w - start) (foundIn w .«commands_spare»))
   same-part =
       let small : start ≤ 14 = early-start w refl in
-      let a : length (drop start kept) ≡ length kept - start = length-drop start kept in
-      let b : length (drop start w) ≡ length w - start = length-drop start w in
-      let even : length (drop start kept) % 2 ≡ length (drop start w) % 2 = omega (arith, kept-length) in
-      long-part (drop start kept) (omega (arith, kept-length)) ∙ ap (λ (x : ℕ). pick (eqb x 1) OddByte TooManyCommands) even ∙ sym (long-part (drop start w) (omega arith))
+      let even : (length kept - start) % 2 ≡ (length w - start) % 2 = omega (arith, kept-length) in
+      long-part (length kept - start) word (omega (arith, kept-length)) ∙ ap (λ (x : ℕ). pick (eqb x 1) OddByte TooManyCommands) even ∙ sym (long-part (length w - start) (foundIn w .«commands_spare») (omega arith))
 
   same-answer : readerAnswer kept ≡ readerAnswer w
   same-answer =
       let small : start ≤ 14 = early-start w refl in
       sym (from-start kept (sym same-head))
-      ∙ heads-same kept w (headOf w)
+      ∙ heads-same (length kept) (length w) (foundIn w) word
       (le-ltb (length kept) 2 (omega (arith, kept-length)) ∙ sym (le-ltb (length w) 2 (omega arith)))
       (le-ltb (length kept) start (omega (arith, kept-length)) ∙ sym (le-ltb (length w) start (omega arith))) same-part
       ∙ from-start w refl

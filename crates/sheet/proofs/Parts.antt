@@ -12,10 +12,10 @@ use Rattle.rules.specs.declared.Answer.{Answer}
 use Rattle.rules.specs.Tables.{pick}
 use Rattle.rules.specs.Answers.{number, done, firstOf}
 use Rattle.rules.specs.Sheet.{afterHomes, readerAnswer, commandsPart}
-use Rattle.reader.specs.declared.Head.{Head}
-use Rattle.reader.specs.Head.{headOf}
+use Rattle.reader.specs.declared.Found.{Found}
+use Rattle.reader.specs.Found.{foundIn}
 use Rattle.reader.specs.Place.{byteUp}
-use Rattle.sheet.specs.Head.{headTests}
+use Rattle.sheet.specs.Refusals.{sheetTests}
 use Rattle.sheet.proofs.Order.{from-start}
 
 -- ---- a slice from a byte on, and from its end on
@@ -29,8 +29,8 @@ nothing-of s = rest-of s (length s) ∙ drop-length s
 whole-byte : (a : ℕ) → byteUp (8 * a) ≡ a
 whole-byte a = omega arith
 
--- ---- the head was read, its tests gave the answer, and the answer's number is n
-module _ (s : List ℕ) {h : Head} {a : Answer} {n : ℕ} (read : h ≡ headOf s) (tests : a ≡ firstOf (headTests s h)) (is : n ≡ number a) where
+-- ---- the sheet was read, its tests gave the answer, and the answer's number is n
+module _ (s : List ℕ) {h : Found} {a : Answer} {n : ℕ} (read : h ≡ foundIn s) (tests : a ≡ firstOf (sheetTests (length s) h)) (is : n ≡ number a) where
   pub answer-is : done (readerAnswer s) ≡ done a
   answer-is = ap done (sym (from-start s read)) ∙ ap done (sym tests)
 
@@ -42,7 +42,7 @@ module _ (s : List ℕ) {h : Head} {a : Answer} {n : ℕ} (read : h ≡ headOf s
 
   after-head : n ≡ 0 → drop (h .start) s ≡ commandsPart s
   unfolding commandsPart
-  after-head e = ap (λ (x : Head). drop (x .start) s) read ∙ sym (ap (λ (t : Bool). pick t (afterHomes s) []) (answer-is ∙ good e))
+  after-head e = ap (λ (x : Found). drop (x .start) s) read ∙ sym (ap (λ (t : Bool). pick t (afterHomes s) []) (answer-is ∙ good e))
 
   pub rest-of-good : n ≡ 0 → {l : List ℕ} → l ≡ drop (byteUp (8 * h .start)) s → l ≡ commandsPart s
   rest-of-good e f = f ∙ ap (λ (a : ℕ). drop a s) (whole-byte (h .start)) ∙ after-head e

@@ -16,9 +16,9 @@ use Rattle.rules.specs.Commands.{zeroBoard, outside, homeOutside, opening}
 use Rattle.rules.specs.Sheet.{Run, nodesOf, processesOf, objectsOf, processHomes, objectHomes, commandCount, afterHomes, readerAnswer, commandsPart, refusedRun, sheetAnswer, runOpening, runSheet}
 use Rattle.rules.proofs.Sheet.{field-below}
 use Rattle.laws.proofs.Ranges.{passed}
-use Rattle.reader.specs.declared.Head.{Head}
-use Rattle.reader.specs.Head.{headOf}
-use Rattle.sheet.specs.Head.{headTests}
+use Rattle.reader.specs.declared.Found.{Found}
+use Rattle.reader.specs.Found.{foundIn}
+use Rattle.sheet.specs.Refusals.{sheetTests}
 use Rattle.sheet.proofs.Order.{from-start}
 use Rattle.sheet.proofs.Parts.{answer-is, good, refused}
 
@@ -70,11 +70,11 @@ module _ (s : List ℕ) where
   unfolding runSheet sheetAnswer firstOf
   refuses room e = rw (e, e)
 
--- ---- what the program has: the head was read, its tests gave the answer, the answer's number is n
+-- ---- what the program has: the sheet was read, its tests gave the answer, the answer's number is n
 abbrev Runs : List ℕ → List ℕ → Ran → List ℕ → Type 0
 Runs s room r after = (r ≡ runSheet s room .ran) × (after ≡ runSheet s room .room)
 
-module _ (s room : List ℕ) {h : Head} {a : Answer} {n : ℕ} (read : h ≡ headOf s) (tests : a ≡ firstOf (headTests s h)) (is : n ≡ number a) where
+module _ (s room : List ℕ) {h : Found} {a : Answer} {n : ℕ} (read : h ≡ foundIn s) (tests : a ≡ firstOf (sheetTests (length s) h)) (is : n ≡ number a) where
   whole-good : n ≡ 0 → done (readerAnswer s) ≡ true
   whole-good e = answer-is s read tests is ∙ good s read tests is e
 

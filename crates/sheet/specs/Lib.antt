@@ -1,4 +1,3 @@
 -- Definitions that the reader's inner contracts cite.
-pub mod Part
-pub mod Head
+pub mod Refusals
 pub mod Kept

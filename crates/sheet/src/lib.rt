@@ -8,25 +8,23 @@ ghost use Rattle.sheet.specs.Kept.{keptOf};
 use rules::Answer;
 use rules::Ran;
 
-mod head;
-mod homes;
-mod part;
+mod refusals;
 
 // The refusals in order, but for a room that is too short.
 pub fn answer(s: &[u8]) -> Answer
     ensures { λ r. ⌜ r ≡ readerAnswer (now (s .entry)) ⌝ }
 {
-    let h = reader::read_head(s);
-    head::tested(s, h)
+    let h = reader::read_sheet(s);
+    refusals::tested(s.len(), h)
 }
 
 // The part of the sheet that holds the commands; an empty part where the sheet is refused.
 pub fn commands(s: &[u8]) -> &[u8]
     ensures { λ r. ⌜ now r ≡ commandsPart (now (s .entry)) ⌝ }
 {
-    let h = reader::read_head(s);
+    let h = reader::read_sheet(s);
     let start = h.start;
-    let a = head::tested(s, h);
+    let a = refusals::tested(s.len(), h);
     if values::answer::number(a) == 0 {
         reader::rest_from(s, 8 * start)
     } else {
@@ -50,8 +48,8 @@ fn refused(a: Answer) -> Ran
 pub fn run(s: &[u8], room: &mut [u8]) -> Ran
     ensures { λ r. ⌜ (r ≡ runSheet (now (s .entry)) (now (room .entry)) .ran) × (now (room .exit) ≡ runSheet (now (s .entry)) (now (room .entry)) .room) ⌝ }
 {
-    let h = reader::read_head(s);
-    let a = head::tested(s, h);
+    let h = reader::read_sheet(s);
+    let a = refusals::tested(s.len(), h);
     if values::answer::number(a) != 0 {
         return refused(a);
     }

@@ -12,7 +12,7 @@ use Rattle.rules.specs.Answers as Answers
 use Rattle.rules.specs.Bits as Bits
 use Rattle.rules.specs.Board as Boards
 use Rattle.rules.specs.Book as Book
-use Rattle.rules.specs.Commands.{countFits}
+use Rattle.rules.specs.Commands.{countFits, homeOutside}
 use Rattle.rules.specs.Lists as Lists
 use Rattle.rules.specs.Determined.{Determined}
 use Rattle.rules.proofs.Determined.{by-equation, by-equation-with}
@@ -27,6 +27,7 @@ use Rattle.values.proofs.bits.lowest as lowest
 use Rattle.values.proofs.mode.is_exclusive as is-exclusive
 use Rattle.values.proofs.mode.mode_if as mode-if
 use Rattle.values.proofs.count.count_fits as count-fits
+use Rattle.values.proofs.homes.home_outside as home-outside
 use Rattle.values.proofs.answer.number as number
 use Rattle.values.proofs.answer.answer_of as answer-of
 use Rattle.values.proofs.message.kind_load as kind-load
@@ -62,6 +63,9 @@ module _ {M : Type 1} (𝓤 : URA M) (H : Heap 𝓤) (A : Atoms 𝓤) (mem : Mem
 
   pub count-fits-determined : Determined count-fits.ended (count-fits.clauses 𝓤 H A mem run) (λ κs r e. r)
   count-fits-determined = by-equation (λ κs a. countFits (a .0) (a .1 .0)) (λ κs a g r e. refl)
+
+  pub home-outside-determined : Determined home-outside.ended (home-outside.clauses 𝓤 H A mem run) (λ κs r e. r)
+  home-outside-determined = by-equation (λ κs a. homeOutside (a .1 .1 .0) (a .1 .0) (a .0)) (λ κs a g r e. refl)
 
   pub number-determined : Determined number.ended (number.clauses 𝓤 H A mem run) (λ κs r e. r)
   number-determined = by-equation (λ κs a. Answers.number (a .0)) (λ κs a g r e. refl)

@@ -7,11 +7,11 @@ use borrow.Author.Needs.{needs}
 use Rattle.sheet.proofs.run.Statement.{statement}
 use Rattle.sheet.proofs.run.Tie as tie
 
-read-head-requires : tie.Need-read-head-requires
-read-head-requires c κs = search needs
+read-sheet-requires : tie.Need-read-sheet-requires
+read-sheet-requires c κs = search needs
 
 tested-requires : tie.Need-tested-requires
-tested-requires c κs = few-homes (c .before .before .before .args .s .now) (c .read-head .ensures)
+tested-requires c κs = few-homes (c .before .before .before .args .s .now) (c .read-sheet .ensures)
 
 number-requires : tie.Need-number-requires
 number-requires c κs = search needs
@@ -23,10 +23,10 @@ returns : tie.Need-returns
 returns c =
     let n = c .before .before in
     let a = n .before .before .before .before .before .args in
-    run-refused (a .s .now) (a .room .now) (n .before .before .read-head .ensures) (n .before .tested .ensures) (n .number .ensures) (c .before .if1 .taken) (c .refused .ensures)
+    run-refused (a .s .now) (a .room .now) (n .before .before .read-sheet .ensures) (n .before .tested .ensures) (n .number .ensures) (c .before .if1 .taken) (c .refused .ensures)
 
 mul-rest-from : tie.Need-mul-rest-from
-mul-rest-from c = omega (arith, early-start (c .before .before .before .before .before .before .args .s .now) (c .before .before .before .read-head .ensures))
+mul-rest-from c = omega (arith, early-start (c .before .before .before .before .before .before .args .s .now) (c .before .before .before .read-sheet .ensures))
 
 rest-from-requires : tie.Need-rest-from-requires
 rest-from-requires c κs = search needs
@@ -34,17 +34,17 @@ rest-from-requires c κs = search needs
 cast-run-opening : tie.Need-cast-run-opening
 cast-run-opening c =
     let h = c .before .before .before .before .before .before .before in
-    omega (arith, few-nodes (h .before .before .before .args .s .now) (h .read-head .ensures))
+    omega (arith, few-nodes (h .before .before .before .args .s .now) (h .read-sheet .ensures))
 
 cast-run-opening-2 : tie.Need-cast-run-opening-2
 cast-run-opening-2 c =
     let h = c .before .before .before .before .before .before .before .before in
-    omega (arith, few-homes (h .before .before .before .args .s .now) (h .read-head .ensures))
+    omega (arith, few-homes (h .before .before .before .args .s .now) (h .read-sheet .ensures))
 
 cast-run-opening-3 : tie.Need-cast-run-opening-3
 cast-run-opening-3 c =
     let h = c .before .before .before .before .before .before .before .before .before in
-    omega (arith, few-homes (h .before .before .before .args .s .now) (h .read-head .ensures))
+    omega (arith, few-homes (h .before .before .before .args .s .now) (h .read-sheet .ensures))
 
 run-opening-requires : tie.Need-run-opening-requires
 run-opening-requires c κs = search needs
@@ -57,14 +57,14 @@ returns-2 c =
     let n = c .before .before .before .before .before .before .before .before .before .before .before in
     let a = n .before .before .before .before .before .args in
     let g = c .before .before .before .before .before .before .before .before .before .before .if1 .left in
-    let part = rest-of-good (a .s .now) (n .before .before .read-head .ensures) (n .before .tested .ensures) (n .number .ensures) g (c .before .before .before .before .before .before .before .before .before .rest-from .ensures) in
-    run-good (a .s .now) (a .room .now) (n .before .before .read-head .ensures) (n .before .tested .ensures) (n .number .ensures) g part (c .before .before .run-opening .ensures)
+    let part = rest-of-good (a .s .now) (n .before .before .read-sheet .ensures) (n .before .tested .ensures) (n .number .ensures) g (c .before .before .before .before .before .before .before .before .before .rest-from .ensures) in
+    run-good (a .s .now) (a .room .now) (n .before .before .read-sheet .ensures) (n .before .tested .ensures) (n .number .ensures) g part (c .before .before .run-opening .ensures)
 
 pub run-spec : {M : Type 1} → statement M
 run-spec =
     tie.close
     (tie.spec
-    read-head-requires
+    read-sheet-requires
     tested-requires
     number-requires
     refused-requires

@@ -1,0 +1,13 @@
+-- `reader::command::spare` meets its contract. Assumes nothing.
+use Rattle.reader.proofs.Spared.{six, eight}
+use Rattle.reader.proofs.command.spare.Statement.{statement}
+use Rattle.reader.proofs.command.spare.Tie as tie
+
+returns : tie.Need-returns
+returns c = six (c .before .args .command) (c .if1 .taken)
+
+returns-2 : tie.Need-returns-2
+returns-2 c = eight (c .before .args .command) (c .if1 .left)
+
+pub spare-spec : {M : Type 1} → statement M
+spare-spec = tie.close (tie.spec returns returns-2)
