@@ -108,3 +108,7 @@ module _ (b : Board) where
   pub told-apart : leb (loadInShape b) 64 ≡ inShape b
   unfolding loadInShape
   told-apart = by-test (inShape b) (λ e. rw e (low e)) (λ e. rw e)
+
+  pub load-told : inShape b ≡ true → loadInShape b ≡ load b
+  unfolding loadInShape
+  load-told e = rw e
