@@ -1,10 +1,11 @@
 -- The public calls: the shape first, then the rule.
 use mathlib.Core.Path.{_≡_, refl, sym, ap, _∙_}
 use mathlib.Core.Logic.{_≢_}
-use mathlib.Core.Bool.{true, false}
+use mathlib.Core.Bool.{Bool, true, false}
 use mathlib.Core.List.{List}
 use Prim.Native.Nat.{ℕ, _/_, _%_, _≤_, _<_}
-use borrow.Author.Tests.{ne-eqb, lt-ltb, le-ltb}
+use lib.Dec.{leb}
+use borrow.Author.Tests.{ne-eqb, lt-ltb, le-ltb, lt-leb, le-leb}
 use lib.ListN.{length}
 use Rattle.rules.specs.declared.Board.{Board}
 use Rattle.rules.specs.declared.Command.{Command}
@@ -24,6 +25,13 @@ use Rattle.values.specs.Numbers.{answerOf}
 use Rattle.values.proofs.Numbers.{answer-back}
 use Rattle.engine.specs.Ready.{Ready}
 use Rattle.engine.proofs.Ready.{shape-ready}
+
+-- ---- the number that a board is asked for at the start of a call
+pub unshaped : (n : ℕ) (t : Bool) → leb n 64 ≡ t → 64 < n → t ≡ false
+unshaped n t e h = sym e ∙ lt-leb n 64 h
+
+pub shaped : (n : ℕ) (t : Bool) → leb n 64 ≡ t → n ≤ 64 → t ≡ true
+shaped n t e h = sym e ∙ le-leb n 64 h
 
 -- ---- one command
 pub step-refused : (b : Board) (c : Command) → inShape b ≡ false → _≡_ {A = Stepped} (record { answer = OutOfShape; board = b }) (step b c)

@@ -1,12 +1,14 @@
 -- One command by value: packed into two bytes it is the command itself, its answer's number stands for its answer, and a number that
 -- no packed field holds is refused by its first tests.
 use mathlib.Core.Path.{_≡_, refl, _∙_}
+use mathlib.Core.Logic.{_≢_}
 use mathlib.Core.List.{List, [], _∷_}
 use Prim.Native.Nat.{ℕ, _+_, _*_, _/_, _%_, _≤_, _<_}
 use native.Mathlib.Omega.{arith}
 use borrow.Author.Tests.{lt-ltb, le-ltb, le-leb, lt-leb}
 use lib.ListN.{getD}
 use Rattle.rules.specs.declared.Board.{Board}
+use Rattle.rules.specs.declared.Command.{Command}
 use Rattle.rules.specs.declared.Command.the-variants as Do
 use Rattle.rules.specs.declared.Answer.{Answer}
 use Rattle.rules.specs.declared.Answer.the-variants.{NoProcess, NoObject, NoMode, NoMessage}
@@ -17,6 +19,8 @@ use Rattle.rules.specs.Sheet.{commandAt, boardAfter, roomAfter}
 use Rattle.rules.proofs.Sheet.{command-bytes}
 use Rattle.values.specs.Numbers.{answerOf}
 use Rattle.values.proofs.Numbers.{answer-back}
+use Rattle.bench.specs.declared.commands.Packed.{Packed}
+use Rattle.bench.specs.Packed.{Packs}
 
 -- ---- one command through the engine
 pub once-turns : (b : Board) (s : List ℕ) (next : Board) (room : List ℕ) → next ≡ boardAfter b s 1 → room ≡ roomAfter b s (0 ∷ []) 1
@@ -25,6 +29,13 @@ unfolding boardAfter roomAfter turn
 once-turns b s next room e f a g = rw (g, e, f, answer-back (answerTo b (commandAt s 0)))
 
 -- ---- a command packed
+pub refuses : (pc oc n : ℕ) (c : Command) (r : Packed) → r ≡ record { refusal = n; first = 0; second = 0 } → n ≢ 0
+    → ((b : Board) → b .«process_count» ≡ pc → b .«object_count» ≡ oc → _≡_ {A = Stepped} (record { answer = answerOf n; board = b }) (turn b c)) → Packs pc oc c r
+refuses pc oc n c r e h f = rw e (record { stands = λ z. absurd (h z); refused = λ _. f })
+
+pub stands : (pc oc hi lo : ℕ) (c : Command) → commandAt (hi ∷ lo ∷ []) 0 ≡ c → Packs pc oc c (record { refusal = 0; first = hi; second = lo })
+stands pc oc hi lo c e = record { stands = λ _. e; refused = λ h. absurd (h refl) }
+
 module _ (p o : ℕ) (h : p < 16) (g : o < 16) where
   abbrev low : ℕ
   low = o % 4 * 64

@@ -1,83 +1,86 @@
-// One command by value: one packed command through the engine.
+// One command, packed for the engine.
 ghost use mathlib.Core.Path.{_≡_};
-ghost use mathlib.Core.List.{[], _∷_};
+ghost use Prim.Native.Nat.{_≤_};
 ghost use Rattle.rules.specs.declared.Command.the-variants as Do;
-ghost use Rattle.rules.specs.Commands.{turn};
-ghost use Rattle.rules.specs.Sheet.{commandAt};
-ghost use Rattle.engine.specs.Ready.{Ready};
-use rules::Answer;
-use rules::Board;
-use rules::Stepped;
+ghost use Rattle.bench.specs.Packed.{Packs};
+use rules::Command;
 
-// The command that two bytes stand for.
-pub fn once(b: Board, hi: u8, lo: u8) -> Stepped
-    requires { ⌜ Ready b ⌝ }
-    ensures { λ r. ⌜ r ≡ turn b (commandAt (hi ∷ lo ∷ []) 0) ⌝ }
+// The two bytes that stand for a command; or the number of the answer that refuses it, and no bytes.
+pub struct Packed {
+    pub refusal: u8,
+    pub first: u8,
+    pub second: u8,
+}
+
+fn refused(number: u8) -> Packed
+    ensures { λ r. ⌜ r ≡ record { refusal = number; first = 0; second = 0 } ⌝ }
 {
-    let s = [hi, lo];
-    let mut room = [0u8; 1];
-    let r = engine::turns(b, &s, false, 1, &mut room, sums::load(b));
-    let next = r.board;
-    Stepped {
-        answer: values::answer::answer_of(room[0]),
-        board: next,
+    Packed {
+        refusal: number,
+        first: 0,
+        second: 0,
     }
 }
 
 // A number at or above its count, or no mode, is refused at once; what is left fits the packed fields.
-pub fn request(b: Board, p: u8, o: u8, m: u8) -> Stepped
-    requires { ⌜ Ready b ⌝ }
-    ensures { λ r. ⌜ r ≡ turn b (Do.Request p o m) ⌝ }
+fn request(p: u8, o: u8, m: u8, pc: u8, oc: u8) -> Packed
+    requires { ⌜ (pc ≤ 16) × (oc ≤ 16) ⌝ }
+    ensures { λ r. ⌜ Packs pc oc (Do.Request p o m) r ⌝ }
 {
-    if b.process_count <= p {
-        return Stepped {
-            answer: Answer::NoProcess,
-            board: b,
-        };
+    if pc <= p {
+        return refused(3);
     }
-    if b.object_count <= o {
-        return Stepped {
-            answer: Answer::NoObject,
-            board: b,
-        };
+    if oc <= o {
+        return refused(4);
     }
     if 1 < m {
-        return Stepped {
-            answer: Answer::NoMode,
-            board: b,
-        };
+        return refused(5);
     }
-    once(b, m * 64 + p * 4 + o / 4, (o % 4) * 64)
+    Packed {
+        refusal: 0,
+        first: m * 64 + p * 4 + o / 4,
+        second: (o % 4) * 64,
+    }
 }
 
-pub fn release(b: Board, p: u8, o: u8) -> Stepped
-    requires { ⌜ Ready b ⌝ }
-    ensures { λ r. ⌜ r ≡ turn b (Do.Release p o) ⌝ }
+fn release(p: u8, o: u8, pc: u8, oc: u8) -> Packed
+    requires { ⌜ (pc ≤ 16) × (oc ≤ 16) ⌝ }
+    ensures { λ r. ⌜ Packs pc oc (Do.Release p o) r ⌝ }
 {
-    if b.process_count <= p {
-        return Stepped {
-            answer: Answer::NoProcess,
-            board: b,
-        };
+    if pc <= p {
+        return refused(3);
     }
-    if b.object_count <= o {
-        return Stepped {
-            answer: Answer::NoObject,
-            board: b,
-        };
+    if oc <= o {
+        return refused(4);
     }
-    once(b, 128 + p * 4 + o / 4, (o % 4) * 64)
+    Packed {
+        refusal: 0,
+        first: 128 + p * 4 + o / 4,
+        second: (o % 4) * 64,
+    }
 }
 
-pub fn deliver(b: Board, n: u8) -> Stepped
-    requires { ⌜ Ready b ⌝ }
-    ensures { λ r. ⌜ r ≡ turn b (Do.Deliver n) ⌝ }
+fn deliver(n: u8, pc: u8, oc: u8) -> Packed
+    ensures { λ r. ⌜ Packs pc oc (Do.Deliver n) r ⌝ }
 {
     if 63 < n {
-        return Stepped {
-            answer: Answer::NoMessage,
-            board: b,
-        };
+        return refused(11);
     }
-    once(b, 192 + n, 0)
+    Packed {
+        refusal: 0,
+        first: 192 + n,
+        second: 0,
+    }
+}
+
+// The command on a board with so many processes and objects.
+pub fn pack(c: Command, pc: u8, oc: u8) -> Packed
+    requires { ⌜ (pc ≤ 16) × (oc ≤ 16) ⌝ }
+    ensures { λ r. ⌜ Packs pc oc c r ⌝ }
+{
+    match c {
+        Command::Request(p, o, m) => request(p, o, m, pc, oc),
+        Command::Release(p, o) => release(p, o, pc, oc),
+        Command::Deliver(n) => deliver(n, pc, oc),
+    }
 }

@@ -1,5 +1,5 @@
 // The board: the commands one by one, many at once, an opening and its commands, and the drain. Each is equal to its rule, on every board
-// and for all numbers. A call on a board asks for its shape once, at its start.
+// and for all numbers. A call on a board asks for its shape once, at its start, and is told its load.
 ghost use mathlib.Core.Path.{_≡_};
 ghost use mathlib.Core.List.{[]};
 ghost use Rattle.rules.specs.declared.Command.the-variants as Do;
@@ -19,16 +19,27 @@ mod guard;
 pub fn step(b: Board, c: Command) -> Stepped
     ensures { λ r. ⌜ r ≡ Rules.step b c ⌝ }
 {
-    if !guard::is_ready(b) {
+    let load = guard::load_if_ready(b);
+    if 64 < load {
         return Stepped {
             answer: Answer::OutOfShape,
             board: b,
         };
     }
-    match c {
-        Command::Request(p, o, m) => commands::request(b, p, o, m),
-        Command::Release(p, o) => commands::release(b, p, o),
-        Command::Deliver(n) => commands::deliver(b, n),
+    let packed = commands::pack(c, b.process_count, b.object_count);
+    if packed.refusal != 0 {
+        return Stepped {
+            answer: values::answer::answer_of(packed.refusal),
+            board: b,
+        };
+    }
+    let s = [packed.first, packed.second];
+    let mut room = [0u8; 1];
+    let r = engine::turns(b, &s, false, 1, &mut room, load);
+    let next = r.board;
+    Stepped {
+        answer: values::answer::answer_of(room[0]),
+        board: next,
     }
 }
 
@@ -69,7 +80,8 @@ fn refused(a: Answer, b: Board) -> Ran
 pub fn run(b: Board, s: &[u8], room: &mut [u8]) -> Ran
     ensures { λ r. ⌜ (r ≡ Sheet.run b (now (s .entry)) (now (room .entry)) .ran) × (now (room .exit) ≡ Sheet.run b (now (s .entry)) (now (room .entry)) .room) ⌝ }
 {
-    if !guard::is_ready(b) {
+    let load = guard::load_if_ready(b);
+    if 64 < load {
         return refused(Answer::OutOfShape, b);
     }
     if s.len() % 2 == 1 {
@@ -79,7 +91,7 @@ pub fn run(b: Board, s: &[u8], room: &mut [u8]) -> Ran
     if room.len() < n {
         return refused(Answer::RoomTooShort, b);
     }
-    engine::turns(b, s, false, n, room, sums::load(b))
+    engine::turns(b, s, false, n, room, load)
 }
 
 // An opening, and packed commands on it. An opening is in shape, so the shape is not asked. Where the call is refused, for any reason,
@@ -115,7 +127,8 @@ pub fn run_opening(
 pub fn drain(b: Board, budget: usize) -> Drained
     ensures { λ r. ⌜ r ≡ Rules.drain b budget ⌝ }
 {
-    if !guard::is_ready(b) {
+    let load = guard::load_if_ready(b);
+    if 64 < load {
         return Drained {
             answer: Answer::OutOfShape,
             made: 0,
@@ -125,11 +138,11 @@ pub fn drain(b: Board, budget: usize) -> Drained
     // The engine reads no command of a drain; the room takes the answers, which are not kept.
     let s = [0u8; 2];
     let mut room = [0u8; 1];
-    let r = engine::turns(b, &s, true, budget, &mut room, sums::load(b));
-    let next = r.board;
+    let r = engine::turns(b, &s, true, budget, &mut room, load);
+    let last = r.board;
     Drained {
         answer: Answer::Done,
         made: r.commands,
-        board: next,
+        board: last,
     }
 }

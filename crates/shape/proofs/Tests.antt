@@ -2,8 +2,9 @@
 use mathlib.Core.Path.{_≡_, refl, sym, ap, _∙_}
 use mathlib.Core.Bool.{Bool, true, false, not, _&&_}
 use mathlib.Core.List.{List}
-use Prim.Native.Nat.{ℕ, zero, suc, _+_, _*_, _/_, _^_, _≤_, _<_}
+use Prim.Native.Nat.{ℕ, zero, suc, _+_, _*_, _/_, _%_, _^_, _≤_, _<_}
 use native.Mathlib.Omega.{arith}
+use native.Mathlib.Decide.{ℕ-discrete}
 use native.Mathlib.Numerals.{add-one}
 use native.Mathlib.Nat.{div-lt-iff-lt-mul, one-mul}
 use lib.Bits.{bitAnd, bitOr, or-zero-l, or-add-and, and-le-l, and-le-r}
@@ -13,14 +14,13 @@ use lib.ListN.{length, getD}
 use borrow.Author.Tests.{eqb-true, eq-eqb, ne-eqb, lt-ltb, ltb-true, not-true, not-false}
 use Rattle.rules.specs.declared.Entries.{Entries}
 use Rattle.rules.specs.declared.Flight.{Flight}
-use Rattle.rules.specs.declared.Board.{Board}
 use Rattle.rules.specs.Tables.{pick, either, all}
-use Rattle.rules.specs.Bits.{taken}
-use Rattle.rules.specs.Shape.{upTo, rowFits, same, kindFits, messageFits}
+use Rattle.rules.specs.Bits.{digit, taken}
+use Rattle.rules.specs.Shape.{upTo, rowFits, same, kindFits}
 use Rattle.rules.specs.Lists.{noEntries}
 use Rattle.rules.specs.Board.{noFlight, isMessage}
 use Rattle.sums.proofs.Sums.{read-at}
-use Rattle.shape.specs.Stand.{RowFits}
+use Rattle.shape.specs.Stand.{RowFits, kindIn}
 use Rattle.rules.proofs.Bits.{taken-and, taken-zero, empty-from}
 use Rattle.rules.proofs.Tables.{same-test, both, all-at, all-from, all-fail}
 
@@ -76,6 +76,14 @@ or-none zero b = rw or-zero-l
 or-none (suc a) b =
     rw (ne-eqb (bitOr (suc a) b) 0 (λ z. omega (arith, z, or-add-and (suc a) b, and-le-r (suc a) b)), eqb·suc-zero)
 
+-- a digit marked beside what was gathered
+pub marked-none : (a n k : ℕ) → eqb (bitOr a (digit n k)) 0 ≡ eqb a 0 && not (taken n k)
+unfolding taken digit
+marked-none a n k = or-none a (n / 2 ^ k % 2) ∙ ap (_&&_ (eqb a 0)) (elim (ℕ-discrete (n / 2 ^ k % 2) 0) [
+  | yes z ↦ rw (eq-eqb _ _ z, ne-eqb (n / 2 ^ k % 2) 1 (λ e. omega (arith, e, z)))
+  | no m ↦ rw (ne-eqb _ _ m, eq-eqb (n / 2 ^ k % 2) 1 (omega (arith, m)))
+])
+
 zero-below-one : (x : ℕ) → ltb x 1 ≡ eqb x 0
 zero-below-one zero = refl
 zero-below-one (suc x) = rw (leb·suc-suc (suc x) 0, leb·suc-zero, eqb·suc-zero)
@@ -88,6 +96,22 @@ limited false x c = zero-below-one x
 unmarked : (t : Bool) → eqb (pick t 0 1) 0 ≡ t
 unmarked true = refl
 unmarked false = refl
+
+-- one more place of two rows gathered
+pub two-zero : (any k : ℕ) (f g : ℕ → ℕ) → eqb any 0 ≡ all k (λ j. eqb (f j) 0) && all k (λ j. eqb (g j) 0)
+    → eqb (bitOr (bitOr any (f k)) (g k)) 0 ≡ all (k + 1) (λ j. eqb (f j) 0) && all (k + 1) (λ j. eqb (g j) 0)
+unfolding all
+two-zero any k f g e = or-none (bitOr any (f k)) (g k) ∙ rw (or-none any (f k), e, add-one) (swapped (all k (λ j. eqb (f j) 0)) (all k (λ j. eqb (g j) 0)) (eqb (f k) 0) (eqb (g k) 0))
+  where
+    swapped : (a b c d : Bool) → ((a && b) && c) && d ≡ (a && c) && (b && d)
+    swapped true true c d = refl
+    swapped true false true d = refl
+    swapped true false false d = refl
+    swapped false b c d = refl
+
+pub zero-rows : (row other : List ℕ) → all 16 (λ j. eqb (getD row j 0) 0) && all 16 (λ j. eqb (getD other j 0) 0) ≡ rowFits row 0 0 && rowFits other 0 0
+unfolding rowFits all
+zero-rows row other = refl
 
 -- one more place gathered
 pub gathered : (wrong mark x limit c : ℕ) (done t : Bool) → eqb wrong 0 ≡ done → mark ≡ pick (ltb x limit) 0 1 → limit ≡ pick t c 1
@@ -120,8 +144,7 @@ pub read-fits : {A : Type 0} (f : A → ℕ → Bool) (l : List A) (k : ℕ) (d 
 read-fits f l k d e r m end c n h t u w = t ∙ ap (λ x. f x m) (read-at l k d e h) ∙ ap (f (getD l k e)) (u ∙ ap (λ (j : ℕ). upTo k j n) w)
 
 -- a message as it is read
-pub read-message : (b : Board) (n : ℕ) (d : Flight) (e : Entries) → n < length (b .flights) → n < length (b .lists)
-    → same (taken (b .occupied) n) (isMessage (getD (b .flights) n d .kind))
-    && kindFits (getD (b .flights) n d .kind) (getD (b .lists) n e) (b .«process_count») (b .«object_count») ≡ messageFits b n
-unfolding messageFits
-read-message b n d e h l = rw (read-at (b .flights) n d noFlight h, read-at (b .lists) n e noEntries l)
+pub read-message : (flights : List Flight) (lists : List Entries) (occupied pc oc n : ℕ) (d : Flight) (e : Entries) → n < length flights → n < length lists
+    → same (taken occupied n) (isMessage (getD flights n d .kind)) && kindFits (getD flights n d .kind) (getD lists n e) pc oc
+    ≡ same (taken occupied n) (isMessage (kindIn flights n)) && kindFits (kindIn flights n) (getD lists n noEntries) pc oc
+read-message flights lists occupied pc oc n d e h l = rw (read-at flights n d noFlight h, read-at lists n e noEntries l)

@@ -1,19 +1,15 @@
--- Those who stand somewhere, noted one after another; and what a board must have shown before its processes can be noted.
+-- Those who stand somewhere, noted one after another; and what tables must have shown before their processes can be noted.
 use Prim.Native.Nat.{ℕ, zero, suc, _≤_, _<_}
-use mathlib.Core.Bool.{false, _||_}
 use mathlib.Core.List.{List}
 use lib.ListN.{getD}
+use lib.Bits.{bitOr}
 use Rattle.rules.specs.declared.Kind.{Kind}
 use Rattle.rules.specs.declared.Kind.the-variants.{Free, Request, Grant, Release, ListToHome, ListToObject}
-use Rattle.rules.specs.declared.Board.{Board}
-use Rattle.rules.specs.Bits.{taken, withBit}
-use Rattle.rules.specs.Board.{kindAt, objectAt}
+use Rattle.rules.specs.declared.Flight.{Flight}
+use Rattle.rules.specs.declared.Object.{Object}
+use Rattle.rules.specs.Bits.{digit, withBit}
+use Rattle.rules.specs.Board.{noFlight, noObject}
 use Rattle.shape.specs.declared.stand.Standing.{Standing}
-
--- counts that have passed their test
-pub record Counted (b : Board) : Type 0 where
-  pub processes : b .«process_count» ≤ 16
-  pub objects : b .«object_count» ≤ 16
 
 -- the first n of a row are processes
 pub record RowFits (row : List ℕ) (n : ℕ) : Type 0 where
@@ -29,18 +25,27 @@ AskerFits (Release p o) = Unit {0}
 AskerFits ListToHome = Unit {0}
 AskerFits (ListToObject o) = Unit {0}
 
--- lines and requests that have passed their tests
-pub record Placed (b : Board) : Type 0 where
-  pub askers : (n : ℕ) → n < 64 → AskerFits (kindAt b n)
-  pub lines : (o : ℕ) → o < 16 → RowFits (objectAt b o .line) (objectAt b o .«line_count»)
+-- the kind under a number, and the book of an object, in their tables
+abbrev pub kindIn : List Flight → ℕ → Kind
+kindIn flights n = getD flights n noFlight .kind
+
+abbrev pub bookIn : List Object → ℕ → Object
+bookIn books o = getD books o noObject
+
+-- requests and lines that have passed their tests
+abbrev pub AskersFit : List Flight → Type 0
+AskersFit flights = (n : ℕ) → n < 64 → AskerFits (kindIn flights n)
+
+abbrev pub LinesFit : List Object → Type 0
+LinesFit books = (o : ℕ) → o < 16 → RowFits (bookIn books o .line) (bookIn books o .«line_count»)
 
 -- ---- noting
 abbrev pub nobody : Standing
-nobody = record { who = 0; twice = false }
+nobody = record { who = 0; twice = 0 }
 
 -- p stands: for the second time, if it is in the set
 abbrev pub noted : Standing → ℕ → Standing
-noted s p = record { who = withBit (s .who) p; twice = s .twice || taken (s .who) p }
+noted s p = record { who = withBit (s .who) p; twice = bitOr (s .twice) (digit (s .who) p) }
 
 -- the first places of a row, of the requests, of the lines
 unfoldable pub notedRow : Standing → List ℕ → ℕ → Standing
@@ -56,10 +61,10 @@ notedKind s (Release p o) = s
 notedKind s ListToHome = s
 notedKind s (ListToObject o) = s
 
-unfoldable pub notedRequests : Board → ℕ → Standing
-notedRequests b zero = nobody
-notedRequests b (suc n) = notedKind (notedRequests b n) (kindAt b n)
+unfoldable pub notedRequests : List Flight → ℕ → Standing
+notedRequests flights zero = nobody
+notedRequests flights (suc n) = notedKind (notedRequests flights n) (kindIn flights n)
 
-unfoldable pub notedLines : Standing → Board → ℕ → Standing
-notedLines s b zero = s
-notedLines s b (suc o) = notedRow (notedLines s b o) (objectAt b o .line) (objectAt b o .«line_count»)
+unfoldable pub notedLines : Standing → List Object → ℕ → Standing
+notedLines s books zero = s
+notedLines s books (suc o) = notedRow (notedLines s books o) (bookIn books o .line) (bookIn books o .«line_count»)

@@ -1,12 +1,12 @@
 // The counts and homes of a board, and the books of its processes and objects.
 ghost use mathlib.Core.Path.{_≡_};
+ghost use mathlib.Core.Bool.{_&&_};
 ghost use Prim.Native.Nat.{_≤_};
+ghost use lib.ListN.{getD};
 ghost use Rattle.rules.specs.Tables.{all};
-ghost use Rattle.rules.specs.Board.{processAt, objectAt};
-ghost use Rattle.rules.specs.Shape.{setFits, holdsFit, countsFit, upTo, waitFits, processFits, objectFits};
-ghost use Rattle.shape.specs.Stand.{Counted};
+ghost use Rattle.rules.specs.Board.{noProcess, noObject};
+ghost use Rattle.rules.specs.Shape.{setFits, holdsFit, countFits, rowFits, upTo, waitFits, processFits, objectFits};
 use crate::row::row_fits;
-use rules::Board;
 use rules::Object;
 use rules::Process;
 use rules::Wait;
@@ -36,24 +36,23 @@ fn holds_fit(shared: u64, exclusive: u64, c: u8) -> bool
 }
 
 // "counts, homes .. are in range"
-pub fn counts_fit(b: Board) -> bool
-    ensures { λ r. ⌜ r ≡ countsFit b ⌝ }
+pub fn counts_fit(nodes: u8, pc: u8, oc: u8, process_home: [u8; 16], object_home: [u8; 16]) -> bool
+    ensures { λ r. ⌜ r ≡ countFits nodes 8 && (countFits pc 16 && (countFits oc 16
+        && (rowFits «process_home» pc nodes && rowFits «object_home» oc nodes))) ⌝ }
 {
-    if !count_fits(b.nodes, 8) {
+    if !count_fits(nodes, 8) {
         return false;
     }
-    if !count_fits(b.process_count, 16) {
+    if !count_fits(pc, 16) {
         return false;
     }
-    if !count_fits(b.object_count, 16) {
+    if !count_fits(oc, 16) {
         return false;
     }
-    let process_home = b.process_home;
-    if !row_fits(process_home, b.process_count, b.nodes) {
+    if !row_fits(process_home, pc, nodes) {
         return false;
     }
-    let object_home = b.object_home;
-    row_fits(object_home, b.object_count, b.nodes)
+    row_fits(object_home, oc, nodes)
 }
 
 // The count for record k of c records; zero past them.
@@ -89,14 +88,14 @@ fn process_fits(p: Process, oc: u8) -> bool
     true
 }
 
-pub fn processes_fit(b: Board) -> bool
-    requires { ⌜ Counted b ⌝ }
-    ensures { λ r. ⌜ r ≡ all 16 (λ p. processFits (processAt b p) (upTo p (b .«process_count») (b .«object_count»))) ⌝ }
+pub fn processes_fit(books: [Process; 16], pc: u8, oc: u8) -> bool
+    requires { ⌜ oc ≤ 16 ⌝ }
+    ensures { λ r. ⌜ r ≡ all 16 (λ p. processFits (getD books p noProcess) (upTo p pc oc)) ⌝ }
 {
-    let end = wide(b.process_count);
+    let end = wide(pc);
     let mut p: usize = 0;
     while p < 16 {
-        if !process_fits(b.processes[p], up_to(p, end, b.object_count)) {
+        if !process_fits(books[p], up_to(p, end, oc)) {
             return false;
         }
         p += 1;
@@ -121,14 +120,14 @@ fn object_fits(o: Object, pc: u8) -> bool
     set_fits(o.line_exclusive, o.line_count)
 }
 
-pub fn objects_fit(b: Board) -> bool
-    requires { ⌜ Counted b ⌝ }
-    ensures { λ r. ⌜ r ≡ all 16 (λ o. objectFits (objectAt b o) (upTo o (b .«object_count») (b .«process_count»))) ⌝ }
+pub fn objects_fit(books: [Object; 16], pc: u8, oc: u8) -> bool
+    requires { ⌜ pc ≤ 16 ⌝ }
+    ensures { λ r. ⌜ r ≡ all 16 (λ o. objectFits (getD books o noObject) (upTo o oc pc)) ⌝ }
 {
-    let end = wide(b.object_count);
+    let end = wide(oc);
     let mut o: usize = 0;
     while o < 16 {
-        if !object_fits(b.objects[o], up_to(o, end, b.process_count)) {
+        if !object_fits(books[o], up_to(o, end, pc)) {
             return false;
         }
         o += 1;

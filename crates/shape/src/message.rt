@@ -3,15 +3,19 @@ ghost use mathlib.Core.Path.{_≡_};
 ghost use mathlib.Core.Bool.{_&&_};
 ghost use Prim.Native.Nat.{_≤_};
 ghost use lib.Dec.{ltb};
+ghost use lib.ListN.{getD};
 ghost use Rattle.rules.specs.Tables.{pick, all};
+ghost use Rattle.rules.specs.Bits.{taken};
+ghost use Rattle.rules.specs.Lists.{noEntries};
 ghost use Rattle.rules.specs.Board.{isMessage};
-ghost use Rattle.rules.specs.Shape.{leadFits, listFits, noList, kindFits, same, messageFits};
-ghost use Rattle.shape.specs.Stand.{Counted};
+ghost use Rattle.rules.specs.Shape.{leadFits, listFits, noList, kindFits, same};
+ghost use Rattle.shape.specs.Stand.{kindIn};
+use crate::row::are_zero;
 use crate::row::over;
 use crate::row::row_fits;
 use crate::stand::different;
-use rules::Board;
 use rules::Entries;
+use rules::Flight;
 use rules::Kind;
 use values::bits::wide;
 
@@ -76,11 +80,8 @@ fn no_list(l: Entries) -> bool
         return false;
     }
     let who = l.who;
-    if !row_fits(who, 0, 0) {
-        return false;
-    }
     let leads = l.leads;
-    row_fits(leads, 0, 0)
+    are_zero(who, leads)
 }
 
 fn pair_fits(p: u8, o: u8, l: Entries, pc: u8, oc: u8) -> bool
@@ -143,16 +144,22 @@ fn message_fits(flies: bool, kind: Kind, l: Entries, pc: u8, oc: u8) -> bool
     kind_fits(kind, l, pc, oc)
 }
 
-pub fn messages_fit(b: Board) -> bool
-    requires { ⌜ Counted b ⌝ }
-    ensures { λ r. ⌜ r ≡ all 64 (messageFits b) ⌝ }
+pub fn messages_fit(
+    flights: [Flight; 64],
+    lists: [Entries; 64],
+    occupied: u64,
+    pc: u8,
+    oc: u8,
+) -> bool
+    requires { ⌜ pc ≤ 16 ⌝ }
+    ensures { λ r. ⌜ r ≡ all 64 (λ n. same (taken occupied n) (isMessage (kindIn flights n)) && kindFits (kindIn flights n) (getD lists n noEntries) pc oc) ⌝ }
 {
     let mut n: usize = 0;
     while n < 64 {
-        let flight = b.flights[n];
-        let flies = (b.occupied >> n) % 2 == 1;
+        let flight = flights[n];
+        let flies = (occupied >> n) % 2 == 1;
         let kind = flight.kind;
-        if !message_fits(flies, kind, b.lists[n], b.process_count, b.object_count) {
+        if !message_fits(flies, kind, lists[n], pc, oc) {
             return false;
         }
         n += 1;

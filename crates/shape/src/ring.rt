@@ -1,13 +1,12 @@
 // The recorded rings.
 ghost use mathlib.Core.Path.{_≡_};
 ghost use Prim.Native.Nat.{_≤_};
+ghost use lib.ListN.{getD};
 ghost use Rattle.rules.specs.Tables.{all};
-ghost use Rattle.rules.specs.Board.{ringAt};
+ghost use Rattle.rules.specs.Lists.{noRing};
 ghost use Rattle.rules.specs.Shape.{ringFits};
-ghost use Rattle.shape.specs.Stand.{Counted};
 use crate::row::row_fits;
 use crate::stand::different;
-use rules::Board;
 use rules::Ring;
 use values::bits::wide;
 
@@ -35,13 +34,13 @@ fn ring_fits(ring: Ring, s: usize, pc: u8) -> bool
     different(processes, ring.count)
 }
 
-pub fn rings_fit(b: Board) -> bool
-    requires { ⌜ Counted b ⌝ }
-    ensures { λ r. ⌜ r ≡ all 16 (λ s. ringFits (ringAt b s) s (b .«process_count»)) ⌝ }
+pub fn rings_fit(rings: [Ring; 16], pc: u8) -> bool
+    requires { ⌜ pc ≤ 16 ⌝ }
+    ensures { λ r. ⌜ r ≡ all 16 (λ s. ringFits (getD rings s noRing) s pc) ⌝ }
 {
     let mut s: usize = 0;
     while s < 16 {
-        if !ring_fits(b.rings[s], s, b.process_count) {
+        if !ring_fits(rings[s], s, pc) {
             return false;
         }
         s += 1;

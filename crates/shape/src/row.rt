@@ -1,6 +1,7 @@
 // Rows of sixteen numbers: the first so many lie below a limit, and the rest are zero.
 // Every place is looked at and what is wrong is gathered, so that a row is tested as one.
 ghost use mathlib.Core.Path.{_≡_};
+ghost use mathlib.Core.Bool.{_&&_};
 ghost use lib.Dec.{ltb};
 ghost use Rattle.rules.specs.Tables.{pick};
 ghost use Rattle.rules.specs.Shape.{rowFits};
@@ -32,4 +33,17 @@ pub fn row_fits(row: [u8; 16], n: u8, c: u8) -> bool
         k += 1;
     }
     wrong == 0
+}
+
+// "unused places hold zero": both rows. They are gathered together, since most numbers have no list.
+pub fn are_zero(row: [u8; 16], other: [u8; 16]) -> bool
+    ensures { λ r. ⌜ r ≡ rowFits row 0 0 && rowFits other 0 0 ⌝ }
+{
+    let mut any: u8 = 0;
+    let mut k: usize = 0;
+    while k < 16 {
+        any = any | row[k] | other[k];
+        k += 1;
+    }
+    any == 0
 }

@@ -1,27 +1,25 @@
 // Who stands somewhere, and whether one stands twice: in a list, in a ring, in the lines and the requests.
 ghost use mathlib.Core.Path.{_≡_};
 ghost use Prim.Native.Nat.{_<_};
-ghost use lib.Dec.{leb};
-ghost use Rattle.rules.specs.Tables.{all};
+ghost use lib.Dec.{eqb};
 ghost use Rattle.rules.specs.Shape as Rules;
-ghost use Rattle.shape.specs.Stand.{nobody, noted, notedRow, notedKind, notedRequests, notedLines, AskerFits, RowFits, Placed};
-use rules::Board;
+ghost use Rattle.shape.specs.Stand.{nobody, noted, notedRow, notedKind, notedRequests, notedLines, AskerFits, RowFits, AskersFit, LinesFit};
+use rules::Flight;
 use rules::Kind;
+use rules::Object;
 use values::bits::wide;
 
-// Those who stand, as a set, and whether one of them stands twice.
+// Those who stand, as a set, and whether one of them stands twice: then `twice` is 1. Both are whole words, since a record with a gap in
+// it is slow to copy.
 pub struct Standing {
     pub who: u64,
-    pub twice: bool,
+    pub twice: u64,
 }
 
 fn nobody_yet() -> Standing
     ensures { λ r. ⌜ r ≡ nobody ⌝ }
 {
-    Standing {
-        who: 0,
-        twice: false,
-    }
+    Standing { who: 0, twice: 0 }
 }
 
 // Process p stands: for the second time, if it is in the set.
@@ -30,7 +28,7 @@ fn note(s: Standing, p: u8) -> Standing
     ensures { λ r. ⌜ r ≡ noted s p ⌝ }
 {
     let bit: u64 = 1 << p;
-    let again = (s.who >> p) % 2 == 1;
+    let again = (s.who >> p) % 2;
     Standing {
         who: s.who | bit,
         twice: s.twice | again,
@@ -58,7 +56,7 @@ pub fn different(row: [u8; 16], n: u8) -> bool
     ensures { λ r. ⌜ r ≡ Rules.different row n ⌝ }
 {
     let s = note_row(nobody_yet(), row, n);
-    !s.twice
+    s.twice == 0
 }
 
 // The process of a request stands; no other message has one that does.
@@ -76,14 +74,14 @@ fn note_kind(s: Standing, kind: Kind) -> Standing
     }
 }
 
-fn note_requests(b: Board) -> Standing
-    requires { ⌜ Placed b ⌝ }
-    ensures { λ r. ⌜ r ≡ notedRequests b 64 ⌝ }
+fn note_requests(flights: [Flight; 64]) -> Standing
+    requires { ⌜ AskersFit flights ⌝ }
+    ensures { λ r. ⌜ r ≡ notedRequests flights 64 ⌝ }
 {
     let mut now = nobody_yet();
     let mut n: usize = 0;
     while n < 64 {
-        let flight = b.flights[n];
+        let flight = flights[n];
         let kind = flight.kind;
         now = note_kind(now, kind);
         n += 1;
@@ -91,14 +89,14 @@ fn note_requests(b: Board) -> Standing
     now
 }
 
-fn note_lines(s: Standing, b: Board) -> Standing
-    requires { ⌜ Placed b ⌝ }
-    ensures { λ r. ⌜ r ≡ notedLines s b 16 ⌝ }
+fn note_lines(s: Standing, books: [Object; 16]) -> Standing
+    requires { ⌜ LinesFit books ⌝ }
+    ensures { λ r. ⌜ r ≡ notedLines s books 16 ⌝ }
 {
     let mut now = s;
     let mut o: usize = 0;
     while o < 16 {
-        let object = b.objects[o];
+        let object = books[o];
         let line = object.line;
         now = note_row(now, line, object.line_count);
         o += 1;
@@ -107,10 +105,10 @@ fn note_lines(s: Standing, b: Board) -> Standing
 }
 
 // "no process stands twice over all lines and request messages taken together"
-pub fn stand_once(b: Board) -> bool
-    requires { ⌜ Placed b ⌝ }
-    ensures { λ r. ⌜ r ≡ all 16 (λ p. leb (Rules.standing b p) 1) ⌝ }
+pub fn stand_once(flights: [Flight; 64], books: [Object; 16]) -> bool
+    requires { ⌜ AskersFit flights × LinesFit books ⌝ }
+    ensures { λ r. ⌜ r ≡ eqb (notedLines (notedRequests flights 64) books 16 .twice) 0 ⌝ }
 {
-    let s = note_lines(note_requests(b), b);
-    !s.twice
+    let s = note_lines(note_requests(flights), books);
+    s.twice == 0
 }

@@ -1,6 +1,5 @@
 -- The counts, then the homes, one after another. Assumes nothing.
 use borrow.Author.Needs.{needs}
-use Rattle.rules.specs.Shape.{countsFit}
 use Rattle.shape.proofs.Tests.{refuses, allows}
 use Rattle.shape.proofs.book.counts_fit.Statement.{statement}
 use Rattle.shape.proofs.book.counts_fit.Tie as tie
@@ -9,14 +8,12 @@ count-fits-requires : tie.Need-count-fits-requires
 count-fits-requires c κs = search needs
 
 returns : tie.Need-returns
-unfolding countsFit
 returns c = refuses _ _ _ (c .before .count-fits .ensures) (c .if1 .taken)
 
 count-fits-requires-2 : tie.Need-count-fits-requires-2
 count-fits-requires-2 c κs = search needs
 
 returns-2 : tie.Need-returns-2
-unfolding countsFit
 returns-2 c =
     allows _ _ _ _ (c .before .before .before .count-fits .ensures) (c .before .before .if1 .left) (refuses _ _ _ (c .before .count-fits2 .ensures) (c .if2 .taken))
 
@@ -24,7 +21,6 @@ count-fits-requires-3 : tie.Need-count-fits-requires-3
 count-fits-requires-3 c κs = search needs
 
 returns-3 : tie.Need-returns-3
-unfolding countsFit
 returns-3 c =
     allows _ _ _ _ (c .before .before .before .before .before .count-fits .ensures) (c .before .before .before .before .if1 .left)
     (allows _ _ _ _ (c .before .before .before .count-fits2 .ensures) (c .before .before .if2 .left)
@@ -34,23 +30,21 @@ row-fits-requires : tie.Need-row-fits-requires
 row-fits-requires c κs = search needs
 
 returns-4 : tie.Need-returns-4
-unfolding countsFit
 returns-4 c =
-    allows _ _ _ _ (c .before .before .before .before .before .before .before .before .count-fits .ensures) (c .before .before .before .before .before .before .before .if1 .left)
-    (allows _ _ _ _ (c .before .before .before .before .before .before .count-fits2 .ensures) (c .before .before .before .before .before .if2 .left)
-    (allows _ _ _ _ (c .before .before .before .before .count-fits3 .ensures) (c .before .before .before .if3 .left)
+    allows _ _ _ _ (c .before .before .before .before .before .before .before .count-fits .ensures) (c .before .before .before .before .before .before .if1 .left)
+    (allows _ _ _ _ (c .before .before .before .before .before .count-fits2 .ensures) (c .before .before .before .before .if2 .left)
+    (allows _ _ _ _ (c .before .before .before .count-fits3 .ensures) (c .before .before .if3 .left)
     (refuses _ _ _ (c .before .row-fits .ensures) (c .if4 .taken))))
 
 row-fits-requires-2 : tie.Need-row-fits-requires-2
 row-fits-requires-2 c κs = search needs
 
 returns-5 : tie.Need-returns-5
-unfolding countsFit
 returns-5 c =
-    allows _ _ _ _ (c .before .before .before .before .before .before .before .before .before .before .count-fits .ensures) (c .before .before .before .before .before .before .before .before .before .if1 .left)
-    (allows _ _ _ _ (c .before .before .before .before .before .before .before .before .count-fits2 .ensures) (c .before .before .before .before .before .before .before .if2 .left)
-    (allows _ _ _ _ (c .before .before .before .before .before .before .count-fits3 .ensures) (c .before .before .before .before .before .if3 .left)
-    (allows _ _ _ _ (c .before .before .before .row-fits .ensures) (c .before .before .if4 .left)
+    allows _ _ _ _ (c .before .before .before .before .before .before .before .before .count-fits .ensures) (c .before .before .before .before .before .before .before .if1 .left)
+    (allows _ _ _ _ (c .before .before .before .before .before .before .count-fits2 .ensures) (c .before .before .before .before .before .if2 .left)
+    (allows _ _ _ _ (c .before .before .before .before .count-fits3 .ensures) (c .before .before .before .if3 .left)
+    (allows _ _ _ _ (c .before .before .row-fits .ensures) (c .before .if4 .left)
     (c .row-fits2 .ensures))))
 
 pub counts-fit-spec : {M : Type 1} → statement M

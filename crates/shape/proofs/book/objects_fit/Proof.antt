@@ -4,30 +4,30 @@ use mathlib.Core.Path.{_≡_, refl, sym}
 use Prim.Native.Nat.{_≤_, _-_}
 use native.Mathlib.Omega.{arith}
 use mathlib.Core.Bool.{true}
-use lib.ListN.{length}
+use lib.ListN.{length, getD}
 use Rattle.rules.specs.Tables.{all}
 use Rattle.sums.proofs.Sums.{length-mapped}
 use Rattle.shape.proofs.Tests.{ends-table, goes-on, read-fits, up-to-le}
-use Rattle.rules.specs.Board.{objectAt}
+use Rattle.rules.specs.Board.{noObject}
 use Rattle.rules.specs.Shape.{objectFits, upTo}
 use Rattle.shape.proofs.book.objects_fit.Statement.{statement}
 use Rattle.shape.proofs.book.objects_fit.Tie as tie
 
 abbrev Inv-loop : tie.InvT-loop
-Inv-loop b end o₀ o = (o ≤ 16) × (all o (λ q. objectFits (objectAt b q) (upTo q (b .«object_count») (b .«process_count»))) ≡ true)
+Inv-loop pc oc books end o₀ o = (o ≤ 16) × (all o (λ q. objectFits (getD books q noObject) (upTo q oc pc)) ≡ true)
 
 abbrev μ-loop : tie.MeasureT-loop
-μ-loop b end o₀ o = 16 - o
+μ-loop pc oc books end o₀ o = 16 - o
 
-sizes : (c : tie.Start Inv-loop μ-loop) → length (c .args .t1 .objects) ≡ 16
+sizes : (c : tie.Start Inv-loop μ-loop) → length (c .args .t1) ≡ 16
 sizes c = search (needs, length-mapped)
 
-one : (c : tie.After-object-fits Inv-loop μ-loop) → c .object-fits .result ≡ objectFits (objectAt (c .before .before .before .before .before .before .args .t1) (c .before .before .before .before .loop .o)) (upTo (c .before .before .before .before .loop .o) (c .before .before .before .before .before .before .args .t1 .«object_count») (c .before .before .before .before .before .before .args .t1 .«process_count»))
+one : (c : tie.After-object-fits Inv-loop μ-loop) → c .object-fits .result ≡ objectFits (getD (c .before .before .before .before .before .before .args .t1) (c .before .before .before .before .loop .o) noObject) (upTo (c .before .before .before .before .loop .o) (c .before .before .before .before .before .before .args .oc) (c .before .before .before .before .before .before .args .pc))
 one c =
-    let a = c .before .before .before .before .before .before .args .t1 in
+    let a = c .before .before .before .before .before .before .args in
     let v = c .before .before .before .before .loop in
     let l = sizes (c .before .before .before .before .before .before) in
-    read-fits objectFits (a .objects) (v .o) _ _ _ _ _ _ _ (omega arith) (c .object-fits .ensures) (c .before .up-to .ensures) (c .before .before .before .before .before .wide .ensures .0)
+    read-fits objectFits (a .t1) (v .o) _ _ _ _ _ _ _ (omega arith) (c .object-fits .ensures) (c .before .up-to .ensures) (c .before .before .before .before .before .wide .ensures .0)
 
 wide-requires : tie.Need-wide-requires Inv-loop μ-loop
 wide-requires c κs = search needs
@@ -39,15 +39,15 @@ loop-holds c = (omega arith, refl)
 mul-object-fits : tie.Need-mul-object-fits Inv-loop μ-loop
 mul-object-fits c = search needs
 
-element-copy-out-object-fits : tie.Need-element-copy-out-object-fits Inv-loop μ-loop
-element-copy-out-object-fits c = search needs
+array-copy-out-object-fits : tie.Need-array-copy-out-object-fits Inv-loop μ-loop
+array-copy-out-object-fits c = search needs
 
 up-to-requires : tie.Need-up-to-requires Inv-loop μ-loop
 up-to-requires c κs = search needs
 
 object-fits-requires : tie.Need-object-fits-requires Inv-loop μ-loop
 object-fits-requires c κs =
-    omega (arith, c .up-to .ensures, up-to-le (c .before .before .before .loop .o) (c .before .before .before .before .wide .result) (c .before .before .before .before .before .args .t1 .«process_count») (c .before .before .before .before .before .pre .processes))
+    omega (arith, c .up-to .ensures, up-to-le (c .before .before .before .loop .o) (c .before .before .before .before .wide .result) (c .before .before .before .before .before .args .pc) (c .before .before .before .before .before .pre))
 
 returns : tie.Need-returns Inv-loop μ-loop
 returns c =
@@ -80,7 +80,7 @@ objects-fit-spec =
     wide-requires
     loop-holds
     mul-object-fits
-    element-copy-out-object-fits
+    array-copy-out-object-fits
     up-to-requires
     object-fits-requires
     returns

@@ -4,30 +4,30 @@ use mathlib.Core.Path.{_≡_, refl, sym}
 use Prim.Native.Nat.{_≤_, _-_}
 use native.Mathlib.Omega.{arith}
 use mathlib.Core.Bool.{true}
-use lib.ListN.{length}
+use lib.ListN.{length, getD}
 use Rattle.rules.specs.Tables.{all}
 use Rattle.sums.proofs.Sums.{length-mapped}
 use Rattle.shape.proofs.Tests.{ends-table, goes-on, read-fits, up-to-le}
-use Rattle.rules.specs.Board.{processAt}
+use Rattle.rules.specs.Board.{noProcess}
 use Rattle.rules.specs.Shape.{processFits, upTo}
 use Rattle.shape.proofs.book.processes_fit.Statement.{statement}
 use Rattle.shape.proofs.book.processes_fit.Tie as tie
 
 abbrev Inv-loop : tie.InvT-loop
-Inv-loop b end p₀ p = (p ≤ 16) × (all p (λ q. processFits (processAt b q) (upTo q (b .«process_count») (b .«object_count»))) ≡ true)
+Inv-loop pc oc books end p₀ p = (p ≤ 16) × (all p (λ q. processFits (getD books q noProcess) (upTo q pc oc)) ≡ true)
 
 abbrev μ-loop : tie.MeasureT-loop
-μ-loop b end p₀ p = 16 - p
+μ-loop pc oc books end p₀ p = 16 - p
 
-sizes : (c : tie.Start Inv-loop μ-loop) → length (c .args .t1 .processes) ≡ 16
+sizes : (c : tie.Start Inv-loop μ-loop) → length (c .args .t1) ≡ 16
 sizes c = search (needs, length-mapped)
 
-one : (c : tie.After-process-fits Inv-loop μ-loop) → c .process-fits .result ≡ processFits (processAt (c .before .before .before .before .before .before .args .t1) (c .before .before .before .before .loop .p)) (upTo (c .before .before .before .before .loop .p) (c .before .before .before .before .before .before .args .t1 .«process_count») (c .before .before .before .before .before .before .args .t1 .«object_count»))
+one : (c : tie.After-process-fits Inv-loop μ-loop) → c .process-fits .result ≡ processFits (getD (c .before .before .before .before .before .before .args .t1) (c .before .before .before .before .loop .p) noProcess) (upTo (c .before .before .before .before .loop .p) (c .before .before .before .before .before .before .args .pc) (c .before .before .before .before .before .before .args .oc))
 one c =
-    let a = c .before .before .before .before .before .before .args .t1 in
+    let a = c .before .before .before .before .before .before .args in
     let v = c .before .before .before .before .loop in
     let l = sizes (c .before .before .before .before .before .before) in
-    read-fits processFits (a .processes) (v .p) _ _ _ _ _ _ _ (omega arith) (c .process-fits .ensures) (c .before .up-to .ensures) (c .before .before .before .before .before .wide .ensures .0)
+    read-fits processFits (a .t1) (v .p) _ _ _ _ _ _ _ (omega arith) (c .process-fits .ensures) (c .before .up-to .ensures) (c .before .before .before .before .before .wide .ensures .0)
 
 wide-requires : tie.Need-wide-requires Inv-loop μ-loop
 wide-requires c κs = search needs
@@ -39,15 +39,15 @@ loop-holds c = (omega arith, refl)
 mul-process-fits : tie.Need-mul-process-fits Inv-loop μ-loop
 mul-process-fits c = search needs
 
-element-copy-out-process-fits : tie.Need-element-copy-out-process-fits Inv-loop μ-loop
-element-copy-out-process-fits c = search needs
+array-copy-out-process-fits : tie.Need-array-copy-out-process-fits Inv-loop μ-loop
+array-copy-out-process-fits c = search needs
 
 up-to-requires : tie.Need-up-to-requires Inv-loop μ-loop
 up-to-requires c κs = search needs
 
 process-fits-requires : tie.Need-process-fits-requires Inv-loop μ-loop
 process-fits-requires c κs =
-    omega (arith, c .up-to .ensures, up-to-le (c .before .before .before .loop .p) (c .before .before .before .before .wide .result) (c .before .before .before .before .before .args .t1 .«object_count») (c .before .before .before .before .before .pre .objects))
+    omega (arith, c .up-to .ensures, up-to-le (c .before .before .before .loop .p) (c .before .before .before .before .wide .result) (c .before .before .before .before .before .args .oc) (c .before .before .before .before .before .pre))
 
 returns : tie.Need-returns Inv-loop μ-loop
 returns c =
@@ -80,7 +80,7 @@ processes-fit-spec =
     wide-requires
     loop-holds
     mul-process-fits
-    element-copy-out-process-fits
+    array-copy-out-process-fits
     up-to-requires
     process-fits-requires
     returns

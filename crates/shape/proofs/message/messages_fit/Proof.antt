@@ -1,34 +1,40 @@
 -- Every message passed fits. Assumes nothing.
 use borrow.Author.Needs.{needs}
 use mathlib.Core.Path.{_≡_, refl, sym, _∙_}
-use Prim.Native.Nat.{_≤_, _-_}
+use Prim.Native.Nat.{ℕ, _≤_, _-_}
 use native.Mathlib.Omega.{arith}
-use mathlib.Core.Bool.{true}
-use lib.ListN.{length}
+use mathlib.Core.Bool.{Bool, true, _&&_}
+use lib.ListN.{length, getD}
 use Rattle.rules.specs.Tables.{all}
 use Rattle.sums.proofs.Sums.{length-mapped}
 use Rattle.shape.proofs.Tests.{ends-table, goes-on, read-message}
 use Rattle.rules.specs.Bits.{taken, digit}
-use Rattle.rules.specs.Shape.{messageFits}
+use Rattle.rules.specs.Lists.{noEntries}
+use Rattle.rules.specs.Board.{isMessage}
+use Rattle.rules.specs.Shape.{same, kindFits}
+use Rattle.shape.specs.Stand.{kindIn}
 use Rattle.shape.proofs.message.messages_fit.Statement.{statement}
 use Rattle.shape.proofs.message.messages_fit.Tie as tie
 
 abbrev Inv-loop : tie.InvT-loop
-Inv-loop b n₀ n = (n ≤ 64) × (all n (messageFits b) ≡ true)
+Inv-loop occupied pc oc flights lists n₀ n = (n ≤ 64) × (all n (λ k. same (taken occupied k) (isMessage (kindIn flights k)) && kindFits (kindIn flights k) (getD lists k noEntries) pc oc) ≡ true)
 
 abbrev μ-loop : tie.MeasureT-loop
-μ-loop b n₀ n = 64 - n
+μ-loop occupied pc oc flights lists n₀ n = 64 - n
 
-sizes : (c : tie.Start Inv-loop μ-loop) → (length (c .args .t1 .flights) ≡ 64) × (length (c .args .t1 .lists) ≡ 64)
+sizes : (c : tie.Start Inv-loop μ-loop) → (length (c .args .t1) ≡ 64) × (length (c .args .t2) ≡ 64)
 sizes c = (search (needs, length-mapped), search (needs, length-mapped))
 
-one : (c : tie.After-message-fits Inv-loop μ-loop) → c .message-fits .result ≡ messageFits (c .before .before .before .before .before .args .t1) (c .before .before .before .before .loop .n)
+abbrev fits : (c : tie.Start Inv-loop μ-loop) → ℕ → Bool
+fits c k = let a = c .args in same (taken (a .occupied) k) (isMessage (kindIn (a .t1) k)) && kindFits (kindIn (a .t1) k) (getD (a .t2) k noEntries) (a .pc) (a .oc)
+
+one : (c : tie.After-message-fits Inv-loop μ-loop) → c .message-fits .result ≡ fits (c .before .before .before .before .before) (c .before .before .before .before .loop .n)
 unfolding taken digit
 one c =
-    let a = c .before .before .before .before .before .args .t1 in
+    let a = c .before .before .before .before .before .args in
     let v = c .before .before .before .before .loop in
     let l = sizes (c .before .before .before .before .before) in
-    c .message-fits .ensures ∙ read-message a (v .n) _ _ (omega arith) (omega arith)
+    c .message-fits .ensures ∙ read-message (a .t1) (a .t2) (a .occupied) (a .pc) (a .oc) (v .n) _ _ (omega arith) (omega arith)
 
 loop-holds : tie.Need-loop-holds Inv-loop μ-loop
 unfolding all
@@ -37,8 +43,8 @@ loop-holds c = (omega arith, refl)
 mul-flight : tie.Need-mul-flight Inv-loop μ-loop
 mul-flight c = search needs
 
-element-copy-out-flight : tie.Need-element-copy-out-flight Inv-loop μ-loop
-element-copy-out-flight c = search needs
+array-copy-out-flight : tie.Need-array-copy-out-flight Inv-loop μ-loop
+array-copy-out-flight c = search needs
 
 shr-flies : tie.Need-shr-flies Inv-loop μ-loop
 shr-flies c = search needs
@@ -46,8 +52,8 @@ shr-flies c = search needs
 mul-message-fits : tie.Need-mul-message-fits Inv-loop μ-loop
 mul-message-fits c = search needs
 
-element-copy-out-message-fits : tie.Need-element-copy-out-message-fits Inv-loop μ-loop
-element-copy-out-message-fits c = search needs
+array-copy-out-message-fits : tie.Need-array-copy-out-message-fits Inv-loop μ-loop
+array-copy-out-message-fits c = search needs
 
 message-fits-requires : tie.Need-message-fits-requires Inv-loop μ-loop
 message-fits-requires c κs = search needs
@@ -82,10 +88,10 @@ messages-fit-spec =
     μ-loop
     loop-holds
     mul-flight
-    element-copy-out-flight
+    array-copy-out-flight
     shr-flies
     mul-message-fits
-    element-copy-out-message-fits
+    array-copy-out-message-fits
     message-fits-requires
     returns
     add-n

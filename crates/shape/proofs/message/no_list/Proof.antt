@@ -2,7 +2,7 @@
 use borrow.Author.Needs.{needs}
 use borrow.Author.Tests.{eq-eqb, ne-eqb}
 use Rattle.rules.specs.Shape.{noList}
-use Rattle.shape.proofs.Tests.{stopped, onward, refuses, allows}
+use Rattle.shape.proofs.Tests.{stopped, onward}
 use Rattle.shape.proofs.message.no_list.Statement.{statement}
 use Rattle.shape.proofs.message.no_list.Tie as tie
 
@@ -14,28 +14,15 @@ returns-2 : tie.Need-returns-2
 unfolding noList
 returns-2 c = onward _ _ _ (eq-eqb _ _ (c .before .before .if1 .left)) (stopped _ _ (ne-eqb _ _ (c .if2 .taken)))
 
-row-fits-requires : tie.Need-row-fits-requires
-row-fits-requires c κs = search needs
+are-zero-requires : tie.Need-are-zero-requires
+are-zero-requires c κs = search needs
 
 returns-3 : tie.Need-returns-3
 unfolding noList
 returns-3 c =
     onward _ _ _ (eq-eqb _ _ (c .before .before .before .before .before .if1 .left))
     (onward _ _ _ (eq-eqb _ _ (c .before .before .before .if2 .left))
-    (refuses _ _ _ (c .before .row-fits .ensures) (c .if3 .taken)))
-
-row-fits-requires-2 : tie.Need-row-fits-requires-2
-row-fits-requires-2 c κs = search needs
-
-returns-4 : tie.Need-returns-4
-unfolding noList
-returns-4 c =
-    onward _ _ _ (eq-eqb _ _ (c .before .before .before .before .before .before .before .if1 .left))
-    (onward _ _ _ (eq-eqb _ _ (c .before .before .before .before .before .if2 .left))
-    (allows _ _ _ _ (c .before .before .before .row-fits .ensures) (c .before .before .if3 .left)
-    (c .row-fits2 .ensures)))
+    (c .are-zero .ensures))
 
 pub no-list-spec : {M : Type 1} → statement M
-no-list-spec =
-    tie.close
-    (tie.spec returns returns-2 row-fits-requires returns-3 row-fits-requires-2 returns-4)
+no-list-spec = tie.close (tie.spec returns returns-2 are-zero-requires returns-3)

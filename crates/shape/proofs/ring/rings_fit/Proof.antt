@@ -4,31 +4,31 @@ use mathlib.Core.Path.{_≡_, refl, sym, ap, _∙_}
 use Prim.Native.Nat.{_≤_, _-_}
 use native.Mathlib.Omega.{arith}
 use mathlib.Core.Bool.{true}
-use lib.ListN.{length}
+use lib.ListN.{length, getD}
 use Rattle.rules.specs.Tables.{all}
 use Rattle.sums.proofs.Sums.{read-at, length-mapped}
 use Rattle.shape.proofs.Tests.{ends-table, goes-on}
 use Rattle.rules.specs.declared.Ring.{Ring}
-use Rattle.rules.specs.Board.{ringAt}
+use Rattle.rules.specs.Lists.{noRing}
 use Rattle.rules.specs.Shape.{ringFits}
 use Rattle.shape.proofs.ring.rings_fit.Statement.{statement}
 use Rattle.shape.proofs.ring.rings_fit.Tie as tie
 
 abbrev Inv-loop : tie.InvT-loop
-Inv-loop b s₀ s = (s ≤ 16) × (all s (λ q. ringFits (ringAt b q) q (b .«process_count»)) ≡ true)
+Inv-loop pc rings s₀ s = (s ≤ 16) × (all s (λ q. ringFits (getD rings q noRing) q pc) ≡ true)
 
 abbrev μ-loop : tie.MeasureT-loop
-μ-loop b s₀ s = 16 - s
+μ-loop pc rings s₀ s = 16 - s
 
-sizes : (c : tie.Start Inv-loop μ-loop) → length (c .args .t1 .rings) ≡ 16
+sizes : (c : tie.Start Inv-loop μ-loop) → length (c .args .t1) ≡ 16
 sizes c = search (needs, length-mapped)
 
-one : (c : tie.After-ring-fits Inv-loop μ-loop) → c .ring-fits .result ≡ ringFits (ringAt (c .before .before .before .before .args .t1) (c .before .before .before .loop .s)) (c .before .before .before .loop .s) (c .before .before .before .before .args .t1 .«process_count»)
+one : (c : tie.After-ring-fits Inv-loop μ-loop) → c .ring-fits .result ≡ ringFits (getD (c .before .before .before .before .args .t1) (c .before .before .before .loop .s) noRing) (c .before .before .before .loop .s) (c .before .before .before .before .args .pc)
 one c =
-    let a = c .before .before .before .before .args .t1 in
+    let a = c .before .before .before .before .args in
     let v = c .before .before .before .loop in
     let l = sizes (c .before .before .before .before) in
-    c .ring-fits .ensures ∙ ap (λ (r : Ring). ringFits r (v .s) (a .«process_count»)) (read-at (a .rings) (v .s) _ _ (omega arith))
+    c .ring-fits .ensures ∙ ap (λ (r : Ring). ringFits r (v .s) (a .pc)) (read-at (a .t1) (v .s) _ _ (omega arith))
 
 loop-holds : tie.Need-loop-holds Inv-loop μ-loop
 unfolding all
@@ -37,11 +37,11 @@ loop-holds c = (omega arith, refl)
 mul-ring-fits : tie.Need-mul-ring-fits Inv-loop μ-loop
 mul-ring-fits c = search needs
 
-element-copy-out-ring-fits : tie.Need-element-copy-out-ring-fits Inv-loop μ-loop
-element-copy-out-ring-fits c = search needs
+array-copy-out-ring-fits : tie.Need-array-copy-out-ring-fits Inv-loop μ-loop
+array-copy-out-ring-fits c = search needs
 
 ring-fits-requires : tie.Need-ring-fits-requires Inv-loop μ-loop
-ring-fits-requires c κs = c .before .before .before .pre .processes
+ring-fits-requires c κs = c .before .before .before .pre
 
 returns : tie.Need-returns Inv-loop μ-loop
 returns c =
@@ -73,7 +73,7 @@ rings-fit-spec =
     μ-loop
     loop-holds
     mul-ring-fits
-    element-copy-out-ring-fits
+    array-copy-out-ring-fits
     ring-fits-requires
     returns
     add-s

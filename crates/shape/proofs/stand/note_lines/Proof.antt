@@ -11,12 +11,12 @@ use Rattle.shape.proofs.stand.note_lines.Statement.{statement}
 use Rattle.shape.proofs.stand.note_lines.Tie as tie
 
 abbrev Inv-loop : tie.InvT-loop
-Inv-loop b now₀ o₀ now o = (o ≤ 16) × (now ≡ notedLines now₀ b o)
+Inv-loop books now₀ o₀ now o = (o ≤ 16) × (now ≡ notedLines now₀ books o)
 
 abbrev μ-loop : tie.MeasureT-loop
-μ-loop b now₀ o₀ now o = 16 - o
+μ-loop books now₀ o₀ now o = 16 - o
 
-sizes : (c : tie.Start Inv-loop μ-loop) → length (c .args .t2 .objects) ≡ 16
+sizes : (c : tie.Start Inv-loop μ-loop) → length (c .args .t2) ≡ 16
 sizes c = search (needs, length-mapped)
 
 loop-holds : tie.Need-loop-holds Inv-loop μ-loop
@@ -26,12 +26,12 @@ loop-holds c = (omega arith, refl)
 mul-object : tie.Need-mul-object Inv-loop μ-loop
 mul-object c = search needs
 
-element-copy-out-object : tie.Need-element-copy-out-object Inv-loop μ-loop
-element-copy-out-object c = search needs
+array-copy-out-object : tie.Need-array-copy-out-object Inv-loop μ-loop
+array-copy-out-object c = search needs
 
 note-row-requires : tie.Need-note-row-requires Inv-loop μ-loop
 note-row-requires c κs =
-    let l = sizes (c .before .before .before .before) in line-at (c .before .before .before .before .args .t2) (c .before .before .before .loop .o) _ (omega arith) (c .before .before .before .before .pre .lines (c .before .before .before .loop .o) (omega arith))
+    let l = sizes (c .before .before .before .before) in line-at (c .before .before .before .before .args .t2) (c .before .before .before .loop .o) _ (omega arith) (c .before .before .before .before .pre (c .before .before .before .loop .o) (omega arith))
 
 add-o : tie.Need-add-o Inv-loop μ-loop
 add-o c = search needs
@@ -60,7 +60,7 @@ note-lines-spec =
     μ-loop
     loop-holds
     mul-object
-    element-copy-out-object
+    array-copy-out-object
     note-row-requires
     add-o
     loop-less

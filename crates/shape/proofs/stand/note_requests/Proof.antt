@@ -11,12 +11,12 @@ use Rattle.shape.proofs.stand.note_requests.Statement.{statement}
 use Rattle.shape.proofs.stand.note_requests.Tie as tie
 
 abbrev Inv-loop : tie.InvT-loop
-Inv-loop b now₀ n₀ now n = (n ≤ 64) × (now ≡ notedRequests b n)
+Inv-loop flights now₀ n₀ now n = (n ≤ 64) × (now ≡ notedRequests flights n)
 
 abbrev μ-loop : tie.MeasureT-loop
-μ-loop b now₀ n₀ now n = 64 - n
+μ-loop flights now₀ n₀ now n = 64 - n
 
-sizes : (c : tie.Start Inv-loop μ-loop) → length (c .args .t1 .flights) ≡ 64
+sizes : (c : tie.Start Inv-loop μ-loop) → length (c .args .t1) ≡ 64
 sizes c = search (needs, length-mapped)
 
 nobody-yet-requires : tie.Need-nobody-yet-requires Inv-loop μ-loop
@@ -29,11 +29,11 @@ loop-holds c = (omega arith, c .nobody-yet .ensures)
 mul-flight : tie.Need-mul-flight Inv-loop μ-loop
 mul-flight c = search needs
 
-element-copy-out-flight : tie.Need-element-copy-out-flight Inv-loop μ-loop
-element-copy-out-flight c = search needs
+array-copy-out-flight : tie.Need-array-copy-out-flight Inv-loop μ-loop
+array-copy-out-flight c = search needs
 
 note-kind-requires : tie.Need-note-kind-requires Inv-loop μ-loop
-note-kind-requires c κs = let l = sizes (c .before .before .before .before) in c .before .before .before .before .pre .askers (c .before .before .loop .n) (omega arith)
+note-kind-requires c κs = let l = sizes (c .before .before .before .before) in c .before .before .before .before .pre (c .before .before .loop .n) (omega arith)
 
 add-n : tie.Need-add-n Inv-loop μ-loop
 add-n c = search needs
@@ -63,7 +63,7 @@ note-requests-spec =
     nobody-yet-requires
     loop-holds
     mul-flight
-    element-copy-out-flight
+    array-copy-out-flight
     note-kind-requires
     add-n
     loop-less

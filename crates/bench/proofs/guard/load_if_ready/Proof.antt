@@ -1,9 +1,10 @@
--- `bench::guard::is_ready` meets its contract: arrays are as long as their types say, so a board in shape is ready for the engine.
+-- `bench::guard::load_if_ready` meets its contract: arrays are as long as their types say, so a board in shape is ready for the engine.
 -- Assumes nothing.
-use mathlib.Core.Path.{_≡_, refl, sym, _∙_}
+use mathlib.Core.Path.{_≡_, refl, ap, _∙_}
 use mathlib.Core.List.{List, [], _∷_, map}
 use Prim.Native.Nat.{ℕ, zero, suc}
 use borrow.Author.Needs.{needs}
+use lib.Dec.{leb}
 use lib.ListN.{length, getD, length-map}
 use mir.Val.{Val}
 use denote.Shadow.{shadow}
@@ -15,9 +16,11 @@ use Rattle.rules.proofs.Object as ObjectField
 use Rattle.rules.proofs.Entries as EntriesField
 use Rattle.rules.proofs.Ring as RingField
 use Rattle.laws.specs.Shape.{Sized}
+use Rattle.shape.proofs.Clauses.{told-apart, load-told}
 use Rattle.engine.proofs.Ready.{shape-ready}
-use Rattle.bench.proofs.guard.is_ready.Statement.{statement}
-use Rattle.bench.proofs.guard.is_ready.Tie as tie
+use Rattle.bench.proofs.Calls.{shaped}
+use Rattle.bench.proofs.guard.load_if_ready.Statement.{statement}
+use Rattle.bench.proofs.guard.load_if_ready.Tie as tie
 
 -- what the types say of each record of an array holds of each, also past its end if it holds of the default
 module _ (F : Field) (P : F .Value → Type 0) (known : (a : F .Value) (vs : List Val) → shadow (F .row .own (F .into a) vs) → P a) (d : F .Value) (h : P d) where
@@ -44,11 +47,15 @@ sized c =
       ring = each-record (RingField.the-field) (λ x. length (x .processes) ≡ 16) (λ x vs s. simp length-map at (s .1 .1 .0 .1 .0 .1)) noRing refl (c .args .b .rings) _ (g .1 .1 .1 .1 .1 .1 .1 .1 .1 .1 .0 .1 .1);
     }
 
-in-shape-requires : tie.Need-in-shape-requires
-in-shape-requires c κs = search needs
+load-in-shape-requires : tie.Need-load-in-shape-requires
+load-in-shape-requires c κs = search needs
 
 returns : tie.Need-returns
-returns c = (c .in-shape .ensures, λ e. shape-ready (c .before .args .b) (sized (c .before)) (sym (c .in-shape .ensures) ∙ e))
+returns c =
+    let b = c .before .args .b in
+    let e = c .load-in-shape .ensures in
+    let t = ap (λ (n : ℕ). leb n 64) e ∙ told-apart b in
+    (t, λ h. let s = shaped _ _ t h in (shape-ready b (sized (c .before)) s, e ∙ load-told b s))
 
-pub is-ready-spec : {M : Type 1} → statement M
-is-ready-spec = tie.close (tie.spec in-shape-requires returns)
+pub load-if-ready-spec : {M : Type 1} → statement M
+load-if-ready-spec = tie.close (tie.spec load-in-shape-requires returns)
