@@ -3,7 +3,7 @@ ghost use mathlib.Core.Path.{_≡_};
 ghost use lib.Dec.{ltb};
 ghost use Rattle.rules.specs.Tables.{pick};
 ghost use Rattle.rules.specs.Answers.{firstOf};
-ghost use Rattle.rules.specs.Board.{noProcess, noObject};
+ghost use Rattle.rules.specs.Board.{noProcess};
 ghost use Rattle.rules.specs.Commands.{homesOf, emptyBoard, zeroBoard, openingTests, opening};
 use rules::Answer;
 use rules::Board;
@@ -81,19 +81,6 @@ fn no_process() -> Process
     }
 }
 
-// The book of an object that nobody holds and nobody waits for.
-fn no_object() -> Object
-    ensures { λ r. ⌜ r ≡ noObject ⌝ }
-{
-    Object {
-        shared: 0,
-        exclusive: 0,
-        line: [0; 16],
-        line_exclusive: 0,
-        line_count: 0,
-    }
-}
-
 // "An opening has empty books and no message."
 fn empty_board(
     nodes: u8,
@@ -105,7 +92,13 @@ fn empty_board(
     ensures { λ r. ⌜ r ≡ emptyBoard nodes processes objects «process_home» «object_home» ⌝ }
 {
     let process = no_process();
-    let object = no_object();
+    let object = Object {
+        shared: 0,
+        exclusive: 0,
+        line: [0; 16],
+        line_exclusive: 0,
+        line_count: 0,
+    };
     let none = values::message::no_entries();
     let ring = Ring {
         processes: [0; 16],

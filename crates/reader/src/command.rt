@@ -11,7 +11,7 @@ pub struct Spares {
     pub next: usize,
 }
 
-// The 16 bits from byte i on, which the sheet has whole.
+// The 16 bits from byte i on, which the sheet has whole: what `field` finds there, without a look at the sheet's end for each byte.
 fn sixteen(s: &[u8], i: usize) -> usize
     requires { ⌜ i + 1 < length (now s) ⌝ }
     ensures { λ r. ⌜ r ≡ field (now (s .entry)) (8 * i) 16 ⌝ }
@@ -20,21 +20,22 @@ fn sixteen(s: &[u8], i: usize) -> usize
 }
 
 // "Kinds 0 to 2 go on with process 4, object 4, six spare; kind 3 with message number 6, eight spare."
-fn spare(command: usize) -> usize
+fn spare(command: usize) -> u8
     ensures { λ r. ⌜ r ≡ spareIn command ⌝ }
 {
     match command / 16384 {
-        0..=2 => command % 64,
-        _ => command % 256,
+        0..=2 => (command % 64) as u8,
+        _ => (command % 256) as u8,
     }
 }
 
-// A spare bit is set in one of n commands, which the sheet has whole from byte `first` on.
+// A spare bit is set in one of n commands, which the sheet has whole from byte `first` on. All of them are gathered before the answer, in one
+// byte: then the compiler can take many commands at a time.
 fn any_spare(s: &[u8], first: usize, n: usize) -> bool
     requires { ⌜ 2 * n ≤ length (now s) - first ⌝ }
     ensures { λ r. ⌜ r ≡ anySpare (drop first (now (s .entry))) n ⌝ }
 {
-    let mut set: usize = 0;
+    let mut set: u8 = 0;
     let mut k: usize = 0;
     while k < n {
         set = set | spare(sixteen(s, first + 2 * k));

@@ -62,7 +62,8 @@ pub fn homes<'s, 'a>(r: &'s mut Reader<'a>, n: usize) -> [u8; 16]
     f.homes
 }
 
-// Reads n commands, or as many as the sheet still has whole, and moves on. Tells whether a spare bit is set in one of them.
+// Reads n commands, or as many as the sheet still has whole, and moves on. Tells whether a spare bit is set in one of them. Commands lie in
+// whole bytes: at a bit inside a byte none is read.
 pub fn commands<'s, 'a>(r: &'s mut Reader<'a>, n: usize) -> bool
     ensures { λ v. ⌜ (v ≡ anySpare (drop (now (r .entry) .at / 8) (now (now (r .entry) .sheet))) (commandsWithin (length (now (now (r .entry) .sheet))) (now (r .entry) .at) n))
         × (now (r .exit) .sheet ≡ now (r .entry) .sheet)

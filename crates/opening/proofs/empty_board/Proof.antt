@@ -6,14 +6,11 @@ use Rattle.opening.proofs.empty_board.Tie as tie
 no-process-requires : tie.Need-no-process-requires
 no-process-requires c κs = search needs
 
-no-object-requires : tie.Need-no-object-requires
-no-object-requires c κs = search needs
-
 no-entries-requires : tie.Need-no-entries-requires
 no-entries-requires c κs = search needs
 
 returns : tie.Need-returns
-returns c = rw (c .before .before .no-process .ensures, c .before .no-object .ensures, c .no-entries .ensures)
+returns c = rw (c .before .no-process .ensures, c .no-entries .ensures)
 
 pub empty-board-spec : {M : Type 1} → statement M
-empty-board-spec = tie.close (tie.spec no-process-requires no-object-requires no-entries-requires returns)
+empty-board-spec = tie.close (tie.spec no-process-requires no-entries-requires returns)

@@ -1,7 +1,6 @@
 -- `reader::command::within` meets its contract: by the cases of its definition. Assumes nothing.
 use native.Mathlib.Omega.{arith}
 use Rattle.reader.proofs.Spared.{none-of-many, none-far, none-inside, none-left, whole-ones, all-of-them}
-use borrow.Author.Needs.{needs}
 use Rattle.reader.proofs.command.within.Statement.{statement}
 use Rattle.reader.proofs.command.within.Tie as tie
 
