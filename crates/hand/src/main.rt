@@ -1,43 +1,39 @@
 // A board stepped at a terminal: each line of standard input is answered at once, until the input ends or says quit.
-mod act;
-mod desk;
+mod fault;
 mod lines;
 mod message;
-mod plan;
 mod put;
 mod say;
 mod show;
+mod told;
 mod undo;
 mod waits;
 
-use act::Acted;
+use desk::Acted;
 use desk::Desk;
+use desk::undo::Kept;
 use lines::Feed;
 use put::text_if;
 use typed::Typed;
-use undo::Kept;
 
-// No board is open yet: all zeros.
-fn closed() -> Desk {
-    let s = opening::open(0, 0, 0, [0; 16], [0; 16]);
-    desk::cleared(s.board, typed::read(b""))
-}
-
+// What a line does to the desk is said, or what is wrong with it.
 fn understood(desk: Desk, t: Typed) -> Acted {
-    if plan::is_whole(t) {
-        return act::act(desk, t);
+    let acted = desk::act(desk, t);
+    if desk::line::is_whole(t) {
+        told::tell(desk, t, acted);
+        return acted;
     }
-    plan::refuse(t);
-    act::stay(desk)
+    fault::refuse(t);
+    acted
 }
 
-// What a line does to the desk. A line longer than the room is not understood.
+// What a line does to the desk. A line longer than the room is not understood: it does as much as an empty one.
 fn answered(desk: Desk, room: &[u8], count: usize) -> Acted {
     if count <= room.len() {
         return understood(desk, typed::read(&room[..count]));
     }
     say::too_long();
-    act::stay(desk)
+    desk::act(desk, typed::read(b""))
 }
 
 fn greet(typing: bool) {
@@ -53,7 +49,7 @@ pub struct Turned {
     pub feed: Feed,
 }
 
-// The next line is read and answered. At a terminal it is asked for, and the end of the input ends the line.
+// The next line is read and answered. At a terminal it is asked for, and the end of the input ends the line. That end is as a typed quit.
 fn turn(typing: bool, desk: Desk, piece: &mut [u8], room: &mut [u8], start: Feed) -> Turned {
     text_if(typing, b"> ");
     let line = lines::next_line(piece, room, start);
@@ -61,7 +57,7 @@ fn turn(typing: bool, desk: Desk, piece: &mut [u8], room: &mut [u8], start: Feed
     if lines::is_over(line) {
         text_if(typing, b"\n");
         return Turned {
-            acted: act::ended(desk),
+            acted: desk::act(desk, typed::read(b"quit")),
             feed,
         };
     }
@@ -75,7 +71,7 @@ fn main() {
     let mut piece = io::buffer();
     let mut room = [0u8; 1000];
     let mut feed = Feed { at: 0, end: 0 };
-    let mut past = [closed(); 65];
+    let mut past = [desk::closed(); 65];
     let mut kept = Kept {
         top: 0,
         count: 0,
@@ -86,18 +82,19 @@ fn main() {
     greet(typing);
     while 0 < turns {
         turns -= 1;
-        let top = undo::place(kept);
+        let top = desk::undo::place(kept);
         let turned = turn(typing, past[top], &mut piece, &mut room, feed);
         feed = turned.feed;
         let acted = turned.acted;
         if acted.ended {
             return;
         }
-        kept = undo::one_more(kept, acted.changed);
-        let next = undo::place(kept);
+        kept = desk::undo::one_more(kept, acted.changed);
+        let next = desk::undo::place(kept);
         let desk = acted.desk;
         past[next] = desk;
         let command = desk.command;
-        kept = undo::one_less(kept, acted.undo, command);
+        undo::tell(acted.undo, kept, command);
+        kept = desk::undo::one_less(kept, acted.undo);
     }
 }

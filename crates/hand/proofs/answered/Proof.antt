@@ -20,8 +20,14 @@ returns c = search needs
 too-long-requires : tie.Need-too-long-requires
 too-long-requires c κs = search needs
 
-stay-requires : tie.Need-stay-requires
-stay-requires c κs = search needs
+slice-aggregate-read-2 : tie.Need-slice-aggregate-read-2
+slice-aggregate-read-2 c = search needs
+
+read-requires-2 : tie.Need-read-requires-2
+read-requires-2 c κs = search needs
+
+act-requires : tie.Need-act-requires
+act-requires c κs = search needs
 
 returns-2 : tie.Need-returns-2
 returns-2 c = search needs
@@ -35,5 +41,7 @@ answered-spec =
     understood-requires
     returns
     too-long-requires
-    stay-requires
+    slice-aggregate-read-2
+    read-requires-2
+    act-requires
     returns-2)
