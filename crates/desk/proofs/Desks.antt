@@ -26,8 +26,8 @@ use Rattle.typed.proofs.Verb.{the-type}
 use Rattle.desk.specs.declared.senders.Site.{Site}
 use Rattle.desk.specs.declared.Desk.{Desk}
 use Rattle.desk.specs.declared.Acted.{Acted}
-use Rattle.desk.specs.Lines.{isWhole}
-use Rattle.desk.specs.Asked as Asked
+use Rattle.asked.specs.Lines.{isWhole}
+use Rattle.asked.specs.Asked as Asked
 use Rattle.desk.specs.Senders as Senders
 use Rattle.desk.specs.Desks.{cleared, closed, moved, told, stay, openedBy, opened, steppedBy, stepped, drainedOnce, drainedTimes, drainedBy, drained, followed, acted}
 

@@ -23,7 +23,7 @@ use Rattle.laws.specs.Local.{goesTo, destination}
 use Rattle.typed.proofs.Naming.{getD-any}
 use Rattle.desk.specs.declared.senders.Site.{Site}
 use Rattle.desk.specs.Senders.{isSent, Sent, sender, markedAt, marked, after}
-use Rattle.desk.proofs.Filling.{Filled, filled-all}
+use Rattle.asked.proofs.Filling.{Filled, filled-all}
 
 -- ---- rows as they are read
 pub length-mapped : (X Y : Type 0) (f : X → Y) (l : List X) (n : ℕ) → length (map f l) ≡ n → length l ≡ n

@@ -1,10 +1,7 @@
 // The desk: a board, with the node that sent each message in flight, which no message carries, and the command that was the last to
 // change it. What a typed line does to it, apart from what is said.
-mod asked;
-pub mod line;
 pub mod messages;
 mod senders;
-pub mod undo;
 
 ghost use mathlib.Core.Path.{_≡_};
 ghost use Rattle.typed.specs.Reading.{reading};
@@ -179,7 +176,7 @@ fn follow(desk: Desk, t: Typed) -> Acted
 pub fn act(desk: Desk, t: Typed) -> Acted
     ensures { λ r. ⌜ r ≡ Desks.acted desk t ⌝ }
 {
-    if line::is_whole(t) {
+    if asked::line::is_whole(t) {
         return follow(desk, t);
     }
     silent(desk, false, false)

@@ -8,11 +8,11 @@ fn fault(t: Typed) {
     let row = t.numbers;
     if let Verb::Open = verb {
         if (t.odd == 0) & (3 < t.count) {
-            crate::say::miscounted_homes(t.count, desk::line::with_homes(row));
+            crate::say::miscounted_homes(t.count, asked::line::with_homes(row));
             return;
         }
     }
-    crate::say::fault(t, desk::line::most(verb));
+    crate::say::fault(t, asked::line::most(verb));
 }
 
 // What is wrong with the line, and what was expected.

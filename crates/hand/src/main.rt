@@ -6,20 +6,20 @@ mod put;
 mod say;
 mod show;
 mod told;
-mod undo;
+mod undone;
 mod waits;
 
 use desk::Acted;
 use desk::Desk;
-use desk::undo::Kept;
 use lines::Feed;
 use put::text_if;
 use typed::Typed;
+use undo::Kept;
 
 // What a line does to the desk is said, or what is wrong with it.
 fn understood(desk: Desk, t: Typed) -> Acted {
     let acted = desk::act(desk, t);
-    if desk::line::is_whole(t) {
+    if asked::line::is_whole(t) {
         told::tell(desk, t, acted);
         return acted;
     }
@@ -82,19 +82,19 @@ fn main() {
     greet(typing);
     while 0 < turns {
         turns -= 1;
-        let top = desk::undo::place(kept);
+        let top = undo::place(kept);
         let turned = turn(typing, past[top], &mut piece, &mut room, feed);
         feed = turned.feed;
         let acted = turned.acted;
         if acted.ended {
             return;
         }
-        kept = desk::undo::one_more(kept, acted.changed);
-        let next = desk::undo::place(kept);
+        kept = undo::one_more(kept, acted.changed);
+        let next = undo::place(kept);
         let desk = acted.desk;
         past[next] = desk;
         let command = desk.command;
-        undo::tell(acted.undo, kept, command);
-        kept = desk::undo::one_less(kept, acted.undo);
+        undone::tell(acted.undo, kept, command);
+        kept = undo::one_less(kept, acted.undo);
     }
 }

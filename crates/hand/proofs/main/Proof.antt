@@ -1,6 +1,6 @@
 -- `hand::main` is safe and ends. The loop's invariant: the arrays keep their lengths, and at most 64 changes are kept, as the laws of undo ask.
 -- The measure is the turns left. Assumes nothing.
-use Rattle.desk.proofs.History.{line-kept}
+use Rattle.undo.proofs.History.{line-kept}
 use mathlib.Core.Path.{_≡_}
 use lib.ListN.{length}
 use borrow.Author.Needs.{needs}

@@ -1,6 +1,6 @@
 -- `marked` meets its contract. The invariant: the places passed are filled. The measure is the places left. Assumes nothing.
 use Rattle.desk.proofs.Sending.{marked-next, marked-all}
-use Rattle.desk.proofs.Filling.{Filled, filled-next}
+use Rattle.asked.proofs.Filling.{Filled, filled-next}
 use Rattle.desk.specs.Senders.{markedAt}
 use Prim.Native.Nat.{_≤_, _-_}
 use native.Mathlib.Omega.{arith}
