@@ -3,4 +3,5 @@ pub mod Verbs
 pub mod Lines
 pub mod Filling
 pub mod Homes
+pub mod Examples
 pub mod Determined

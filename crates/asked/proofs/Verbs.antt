@@ -1,5 +1,4 @@
 -- The arm of a match on a verb that takes the rest: each verb that the arms before it name is not there. Assumes nothing.
-use mathlib.Core.Bool.{Bool}
 use mathlib.Core.List.{List, [], _∷_}
 use mathlib.Core.Path.{_≡_, refl}
 use Prim.{tt}
@@ -7,7 +6,6 @@ use Prim.Native.Nat.{ℕ}
 use lib.Dec.{eqb}
 use types.Run.{OneOf, miss}
 use denote.Enum.Declared.{tagOf}
-use Rattle.rules.specs.declared.Command.{Command}
 use Rattle.rules.specs.declared.Command.the-variants as Do
 use Rattle.typed.specs.declared.Verb.{Verb}
 use Rattle.typed.specs.declared.Verb.the-variants.{Blank, Open, Request, Release, Deliver, Drain, Show, Waits, Rings, Undo, Help, Quit, Unknown}

@@ -1,10 +1,10 @@
 -- Laws of what a line does to the desk: each function's tests, one after another, over what its calls have returned. Assumes nothing.
 use mathlib.Core.Path.{_≡_, refl, sym, ap, _∙_}
 use mathlib.Core.Logic.{_≢_}
-use mathlib.Core.Bool.{Bool, true, false, not}
+use mathlib.Core.Bool.{true, false, not}
 use mathlib.Core.List.{List, [], _∷_}
 use Prim.{tt}
-use Prim.Native.Nat.{ℕ, suc, _+_}
+use Prim.Native.Nat.{ℕ, _+_}
 use native.Mathlib.Numerals.{add-one}
 use borrow.Author.Tests.{eq-eqb, ne-eqb}
 use lib.Dec.{eqb}
@@ -44,9 +44,9 @@ module _ (d : Desk) (t : Typed) where
         refused : told d (s .answer) 0 64 false ≡ openedBy s d t
         refused = rw (ne-eqb (number (s .answer)) 0 (λ q. h (g ∙ q)))
 
-    pub open-taken : k ≡ 0 → x ≡ told (cleared (s .board) t) (s .answer) 0 64 true → x ≡ opened d t
+    pub open-taken : (m : Desk) → k ≡ 0 → m ≡ cleared (s .board) t → x ≡ told m (s .answer) 0 64 true → x ≡ opened d t
     unfolding opened
-    open-taken h e = e ∙ taken ∙ ap (λ (y : Stepped). openedBy y d t) from
+    open-taken m h n e = e ∙ ap (λ (y : Desk). told y (s .answer) 0 64 true) n ∙ taken ∙ ap (λ (y : Stepped). openedBy y d t) from
       where
         taken : told (cleared (s .board) t) (s .answer) 0 64 true ≡ openedBy s d t
         taken = rw (eq-eqb (number (s .answer)) 0 (sym g ∙ h))
@@ -66,8 +66,8 @@ module _ (d : Desk) (t : Typed) where
         refused : told d (s .answer) 0 (w .freed) false ≡ steppedBy s w d t
         refused = rw (ne-eqb (number (s .answer)) 0 (λ q. h (g ∙ q)))
 
-    pub step-taken : k ≡ 0 → x ≡ told (moved d (s .board) w t) (s .answer) 0 (w .freed) true → x ≡ stepped d t
-    step-taken h e = e ∙ taken ∙ whole
+    pub step-taken : (m : Desk) → k ≡ 0 → m ≡ moved d (s .board) w t → x ≡ told m (s .answer) 0 (w .freed) true → x ≡ stepped d t
+    step-taken m h n e = e ∙ ap (λ (y : Desk). told y (s .answer) 0 (w .freed) true) n ∙ taken ∙ whole
       where
         taken : told (moved d (s .board) w t) (s .answer) 0 (w .freed) true ≡ steppedBy s w d t
         taken = rw (eq-eqb (number (s .answer)) 0 (sym g ∙ h))

@@ -1,9 +1,8 @@
 -- Laws of messages and their senders: the rows as the functions read them, and the sets of message numbers. Assumes nothing.
 use mathlib.Core.Path.{_≡_, refl, sym, ap, ap₂, _∙_}
-use mathlib.Core.Logic.{_≢_}
 use mathlib.Core.Bool.{Bool, true, false, not, _&&_}
 use mathlib.Core.List.{List, map}
-use Prim.Native.Nat.{ℕ, _+_, _-_, _*_, _%_, _^_, _≤_, _<_}
+use Prim.Native.Nat.{ℕ, _-_, _*_, _%_, _^_, _≤_, _<_}
 use native.Mathlib.Omega.{arith}
 use native.Mathlib.Decide.{decLt}
 use borrow.Author.Tests.{ne-eqb}
@@ -13,7 +12,7 @@ use lib.ListN.{length, getD, List·getD-eq-default, length-map}
 use Rattle.rules.specs.declared.Flight.{Flight}
 use Rattle.rules.specs.declared.Entries.{Entries}
 use Rattle.rules.specs.declared.Board.{Board}
-use Rattle.rules.specs.Tables.{either, rows}
+use Rattle.rules.specs.Tables.{either}
 use Rattle.rules.specs.Bits.{taken}
 use Rattle.rules.specs.Lists.{noEntries}
 use Rattle.rules.specs.Board.{noFlight, listAt}

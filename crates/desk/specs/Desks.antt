@@ -1,13 +1,12 @@
 -- What a typed line does to a desk: a board, the node that sent each message in flight, and the command that was the last to change it.
 use Prim.Native.Nat.{ℕ, zero, suc}
 use mathlib.Core.Bool.{Bool, true, false, not}
-use mathlib.Core.List.{List, []}
+use mathlib.Core.List.{[]}
 use lib.Dec.{eqb}
 use lib.ListN.{replicate}
 use Rattle.rules.specs.declared.Answer.{Answer}
 use Rattle.rules.specs.declared.Answer.the-variants.{Done}
 use Rattle.rules.specs.declared.Board.{Board}
-use Rattle.rules.specs.declared.Command.{Command}
 use Rattle.rules.specs.declared.Stepped.{Stepped}
 use Rattle.rules.specs.declared.Drained.{Drained}
 use Rattle.rules.specs.Tables.{pick}

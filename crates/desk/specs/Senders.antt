@@ -1,6 +1,6 @@
 -- Who sent the messages in flight. A command acts at one node: a request and a release at the home of the process, a delivery where the
 -- message arrives. What it puts in flight, that node has sent; for every other message the sender is as it was.
-use Prim.Native.Nat.{ℕ, _<_}
+use Prim.Native.Nat.{ℕ}
 use mathlib.Core.Path.{_≡_}
 use mathlib.Core.Bool.{Bool, not, _&&_}
 use mathlib.Core.List.{List}

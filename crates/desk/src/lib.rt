@@ -4,7 +4,6 @@ pub mod messages;
 mod senders;
 
 ghost use mathlib.Core.Path.{_≡_};
-ghost use Rattle.typed.specs.Reading.{reading};
 ghost use Rattle.desk.specs.Desks as Desks;
 use rules::Answer;
 use rules::Board;

@@ -3,15 +3,15 @@
 use mathlib.Core.Path.{_≡_, refl, sym, ap, _∙_}
 use mathlib.Core.Bool.{Bool, true, false}
 use mathlib.Core.Logic.{_≢_}
-use mathlib.Core.List.{List, [], _∷_}
-use Prim.Native.Nat.{ℕ, zero, suc, _+_, _-_, _%_, _≤_, _<_, min}
+use mathlib.Core.List.{List, _∷_}
+use Prim.Native.Nat.{ℕ, zero, suc, _+_, _-_, _%_, _≤_, _<_}
 use native.Mathlib.Omega.{arith}
-use native.Mathlib.Decide.{decLt, ℕ-discrete}
+use native.Mathlib.Decide.{decLt}
 use borrow.Author.Tests.{lt-ltb, le-ltb, eq-eqb, ne-eqb}
-use lib.Dec.{ltb, leb, eqb}
+use lib.Dec.{ltb}
 use lib.ListN.{length, getD, set, take, length-take}
 use lib.Seq.{ext-getD, getD-set-same, getD-set-other, getD-take, set-getD}
-use Rattle.rules.specs.Tables.{pick, rows, either}
+use Rattle.rules.specs.Tables.{pick, rows}
 use Rattle.rules.proofs.Tables.{by-test, rows-length, rows-at, rows-front, rows-ext}
 use Rattle.undo.specs.declared.Kept.{Kept}
 use Rattle.undo.specs.Undo.{place, back, next, oneMore, before, oneLess, history, pushed, popped, changedBy, undoneBy}

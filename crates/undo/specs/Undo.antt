@@ -1,6 +1,6 @@
 -- Undo: a ring of 65 places that stands for the desk and at most 64 desks before it, newest first. What a desk is does not matter here.
 use Prim.Native.Nat.{ℕ, suc, _+_, _-_, _%_}
-use mathlib.Core.Bool.{Bool, true, false}
+use mathlib.Core.Bool.{Bool, true}
 use mathlib.Core.List.{List, [], _∷_}
 use lib.Dec.{eqb, ltb}
 use lib.ListN.{getD, take}

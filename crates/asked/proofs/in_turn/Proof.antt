@@ -1,5 +1,4 @@
 -- `in_turn` meets its contract. The invariant: the places passed are filled. The measure is the places left. Assumes nothing.
-use mathlib.Core.Path.{_≡_, ap}
 use mathlib.Core.Logic.{_≢_}
 use native.Mathlib.Omega.{arith}
 use Rattle.asked.specs.Asked.{inTurnAt}

@@ -1,9 +1,5 @@
 -- `open` meets its contract: refused, or a new desk. Assumes nothing.
 use Rattle.desk.proofs.Desks.{open-refused, open-taken}
-use Rattle.desk.specs.Desks.{told}
-use Rattle.desk.specs.declared.Desk.{Desk}
-use mathlib.Core.Bool.{true}
-use mathlib.Core.Path.{ap, _∙_}
 use borrow.Author.Needs.{needs}
 use Rattle.desk.proofs.open.Statement.{statement}
 use Rattle.desk.proofs.open.Tie as tie
@@ -31,8 +27,7 @@ told-requires-2 c κs = search needs
 returns-2 : tie.Need-returns-2
 returns-2 c = let n = c .before .before .before .before in
     let a = n .before .before .args in
-    open-taken (a .desk) (a .t) (n .before .opened .result) (n .number .result) (n .before .opened .ensures) (n .number .ensures) (c .told2 .result) (c .before .before .before .if1 .left)
-    (c .told2 .ensures ∙ ap (λ (y : Desk). told y (n .before .opened .result .answer) 0 64 true) (c .before .cleared .ensures))
+    open-taken (a .desk) (a .t) (n .before .opened .result) (n .number .result) (n .before .opened .ensures) (n .number .ensures) (c .told2 .result) (c .before .cleared .result) (c .before .before .before .if1 .left) (c .before .cleared .ensures) (c .told2 .ensures)
 
 pub open-spec : {M : Type 1} → statement M
 open-spec =

@@ -1,9 +1,5 @@
 -- `step` meets its contract: refused, or the board that the command made. Assumes nothing.
 use Rattle.desk.proofs.Desks.{step-refused, step-taken}
-use Rattle.desk.specs.Desks.{told}
-use Rattle.desk.specs.declared.Desk.{Desk}
-use mathlib.Core.Bool.{true}
-use mathlib.Core.Path.{ap, _∙_}
 use borrow.Author.Needs.{needs}
 use Rattle.desk.proofs.step.Statement.{statement}
 use Rattle.desk.proofs.step.Tie as tie
@@ -43,8 +39,7 @@ returns-2 c = let n = c .before .before .before .before in
     let w = s .before in
     let q = w .before in
     let a = q .before .before .args in
-    step-taken (a .desk) (a .t) (q .command .result) (w .acts-at .result) (s .step .result) (n .number .result) (q .command .ensures) (w .acts-at .ensures) (s .step .ensures) (n .number .ensures) (c .told2 .result) (c .before .before .before .if1 .left)
-    (c .told2 .ensures ∙ ap (λ (y : Desk). told y (s .step .result .answer) 0 (w .acts-at .result .freed) true) (c .before .moved .ensures))
+    step-taken (a .desk) (a .t) (q .command .result) (w .acts-at .result) (s .step .result) (n .number .result) (q .command .ensures) (w .acts-at .ensures) (s .step .ensures) (n .number .ensures) (c .told2 .result) (c .before .moved .result) (c .before .before .before .if1 .left) (c .before .moved .ensures) (c .told2 .ensures)
 
 pub step-spec : {M : Type 1} → statement M
 step-spec =
