@@ -13,7 +13,7 @@ use Rattle.typed.specs.declared.Verb.the-variants.{Blank, Open, Request, Releas
 use Rattle.typed.specs.declared.Typed.{Typed}
 use Rattle.typed.specs.Homes.{numberAt, homes}
 
--- ---- "Process, object and mode of a request; process and object of a release; the message number of a delivery."
+-- ---- a command: process, object and mode of a request; process and object of a release; the message number of a delivery
 -- A verb that names no command is as a delivery: such a line asks nothing of the board.
 unfoldable pub commandOf : Verb → ℕ → ℕ → ℕ → Command
 commandOf Request p o m = Do.Request p o m

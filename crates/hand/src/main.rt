@@ -9,6 +9,10 @@ mod told;
 mod undone;
 mod waits;
 
+ghost use mathlib.Core.Path.{_≡_};
+ghost use Rattle.typed.specs.Reading.{reading};
+ghost use Rattle.desk.specs.Desks.{acted};
+ghost use Rattle.hand.specs.Heard.{heard};
 use desk::Acted;
 use desk::Desk;
 use lines::Feed;
@@ -17,7 +21,9 @@ use typed::Typed;
 use undo::Kept;
 
 // What a line does to the desk is said, or what is wrong with it.
-fn understood(desk: Desk, t: Typed) -> Acted {
+fn understood(desk: Desk, t: Typed) -> Acted
+    ensures { λ r. ⌜ r ≡ acted desk t ⌝ }
+{
     let acted = desk::act(desk, t);
     if asked::line::is_whole(t) {
         told::tell(desk, t, acted);
@@ -28,7 +34,9 @@ fn understood(desk: Desk, t: Typed) -> Acted {
 }
 
 // What a line does to the desk. A line longer than the room is not understood: it does as much as an empty one.
-fn answered(desk: Desk, room: &[u8], count: usize) -> Acted {
+fn answered(desk: Desk, room: &[u8], count: usize) -> Acted
+    ensures { λ r. ⌜ r ≡ acted desk (reading (heard (now (room .entry)) count)) ⌝ }
+{
     if count <= room.len() {
         return understood(desk, typed::read(&room[..count]));
     }

@@ -1,6 +1,6 @@
+-- `opened` meets its contract: the opening of what was typed. Assumes nothing.
 use mathlib.Core.Path.{_∙_}
 use Rattle.asked.proofs.Homes.{opening-typed}
--- `opened` meets its contract: the opening of what was typed. Assumes nothing.
 use borrow.Author.Needs.{needs}
 use Rattle.asked.proofs.opened.Statement.{statement}
 use Rattle.asked.proofs.opened.Tie as tie

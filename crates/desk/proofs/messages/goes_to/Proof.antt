@@ -1,6 +1,6 @@
+-- `goes_to` meets its contract: by the kind of the message. Assumes nothing.
 use Rattle.laws.specs.Local.{processHome}
 use mathlib.Core.Path.{ap, _∙_}
--- `goes_to` meets its contract: by the kind of the message. Assumes nothing.
 use borrow.Author.Needs.{needs}
 use Rattle.desk.proofs.messages.goes_to.Statement.{statement}
 use Rattle.desk.proofs.messages.goes_to.Tie as tie
