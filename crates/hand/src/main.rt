@@ -1,43 +1,47 @@
 // A board stepped at a terminal: each line of standard input is answered at once, until the input ends or says quit.
-mod act;
-mod desk;
+mod fault;
 mod lines;
 mod message;
-mod plan;
 mod put;
 mod say;
 mod show;
-mod undo;
+mod told;
+mod undone;
 mod waits;
 
-use act::Acted;
+ghost use mathlib.Core.Path.{_≡_};
+ghost use Rattle.typed.specs.Reading.{reading};
+ghost use Rattle.desk.specs.Desks.{acted};
+ghost use Rattle.hand.specs.Heard.{heard};
+use desk::Acted;
 use desk::Desk;
 use lines::Feed;
 use put::text_if;
 use typed::Typed;
 use undo::Kept;
 
-// No board is open yet: all zeros.
-fn closed() -> Desk {
-    let s = opening::open(0, 0, 0, [0; 16], [0; 16]);
-    desk::cleared(s.board, typed::read(b""))
-}
-
-fn understood(desk: Desk, t: Typed) -> Acted {
-    if plan::is_whole(t) {
-        return act::act(desk, t);
+// What a line does to the desk is said, or what is wrong with it.
+fn understood(desk: Desk, t: Typed) -> Acted
+    ensures { λ r. ⌜ r ≡ acted desk t ⌝ }
+{
+    let acted = desk::act(desk, t);
+    if asked::line::is_whole(t) {
+        told::tell(desk, t, acted);
+        return acted;
     }
-    plan::refuse(t);
-    act::stay(desk)
+    fault::refuse(t);
+    acted
 }
 
-// What a line does to the desk. A line longer than the room is not understood.
-fn answered(desk: Desk, room: &[u8], count: usize) -> Acted {
+// What a line does to the desk. A line longer than the room is not understood: it does as much as an empty one.
+fn answered(desk: Desk, room: &[u8], count: usize) -> Acted
+    ensures { λ r. ⌜ r ≡ acted desk (reading (heard (now (room .entry)) count)) ⌝ }
+{
     if count <= room.len() {
         return understood(desk, typed::read(&room[..count]));
     }
     say::too_long();
-    act::stay(desk)
+    desk::act(desk, typed::read(b""))
 }
 
 fn greet(typing: bool) {
@@ -53,7 +57,7 @@ pub struct Turned {
     pub feed: Feed,
 }
 
-// The next line is read and answered. At a terminal it is asked for, and the end of the input ends the line.
+// The next line is read and answered. At a terminal it is asked for, and the end of the input ends the line. That end is as a typed quit.
 fn turn(typing: bool, desk: Desk, piece: &mut [u8], room: &mut [u8], start: Feed) -> Turned {
     text_if(typing, b"> ");
     let line = lines::next_line(piece, room, start);
@@ -61,7 +65,7 @@ fn turn(typing: bool, desk: Desk, piece: &mut [u8], room: &mut [u8], start: Feed
     if lines::is_over(line) {
         text_if(typing, b"\n");
         return Turned {
-            acted: act::ended(desk),
+            acted: desk::act(desk, typed::read(b"quit")),
             feed,
         };
     }
@@ -75,7 +79,7 @@ fn main() {
     let mut piece = io::buffer();
     let mut room = [0u8; 1000];
     let mut feed = Feed { at: 0, end: 0 };
-    let mut past = [closed(); 65];
+    let mut past = [desk::closed(); 65];
     let mut kept = Kept {
         top: 0,
         count: 0,
@@ -98,6 +102,7 @@ fn main() {
         let desk = acted.desk;
         past[next] = desk;
         let command = desk.command;
-        kept = undo::one_less(kept, acted.undo, command);
+        undone::tell(acted.undo, kept, command);
+        kept = undo::one_less(kept, acted.undo);
     }
 }

@@ -1,16 +1,38 @@
 // A message in words: its kind, what it carries, and its way.
-use crate::desk::Desk;
-use crate::desk::at;
+ghost use Prim.Native.Nat.{_<_};
 use crate::put::comma;
 use crate::put::digit;
 use crate::put::row;
 use crate::put::say;
 use crate::put::text;
+use desk::Desk;
+use desk::messages::arrives_at;
 use rules::Board;
 use rules::Entries;
 use rules::Kind;
 use values::bits::wide;
 use values::mode::is_exclusive;
+
+fn wide32(x: u32) -> usize
+    ensures { λ r. ⌜ r < 4294967296 ⌝ }
+{
+    x as usize
+}
+
+// How many messages the set has.
+pub fn size(set: u64) -> usize
+    ensures { λ r. ⌜ r < 4294967296 ⌝ }
+{
+    wide32(u64::count_ones(set))
+}
+
+fn at(row: [u8; 16], k: u8) -> u8 {
+    let i = wide(k);
+    if i < 16 {
+        return row[i];
+    }
+    0
+}
 
 // What a message says: its form in the table of forms, and the numbers that are put in. It goes to the home of an object or of a process.
 pub struct Said {
@@ -66,16 +88,6 @@ pub fn under(b: Board, n: usize) -> Said {
         return of(k, who[0], at(who, l.next));
     }
     to_object(0, 0, 0, 0)
-}
-
-// The node at which a message arrives.
-pub fn goes_to(b: Board, s: Said) -> u8 {
-    let process_home = b.process_home;
-    let object_home = b.object_home;
-    if s.to_object {
-        return at(object_home, s.home_of);
-    }
-    at(process_home, s.home_of)
 }
 
 // One entry; each but the first names the earlier one that led to it.
@@ -143,7 +155,7 @@ pub fn tell(before: &[u8], desk: Desk, n: usize) {
     if n < 64 {
         let b = desk.board;
         let s = under(b, n);
-        line(before, n, s, desk.senders[n], goes_to(b, s));
+        line(before, n, s, desk.senders[n], arrives_at(b, n));
         entries(s, b.lists[n]);
         text(b"\n");
     }

@@ -1,6 +1,5 @@
 // The board as a class should see it: what each node can know, and what only the whole board shows.
-use crate::desk::Desk;
-use crate::desk::size;
+use crate::message::size;
 use crate::put::comma;
 use crate::put::digit;
 use crate::put::items;
@@ -9,6 +8,7 @@ use crate::put::say;
 use crate::put::text;
 use crate::put::text_if;
 use crate::put::word;
+use desk::Desk;
 use rules::Board;
 use rules::Object;
 use rules::Process;

@@ -16,7 +16,8 @@ use Rattle.typed.specs.Words.{words}
 use Rattle.typed.specs.Spans.{part, NextWord}
 use Rattle.typed.specs.Names.{lower, alike, placeIn, verbs, verbAt}
 
-getD-any : {A : Type 0} (l : List A) (i : ℕ) (d e : A) → i < length l → getD l i d ≡ getD l i e
+-- inside a list the default does not matter
+pub getD-any : {A : Type 0} (l : List A) (i : ℕ) (d e : A) → i < length l → getD l i d ≡ getD l i e
 getD-any [] i d e h = absurd (omega arith)
 getD-any (x ∷ l) zero d e h = refl
 getD-any (x ∷ l) (suc i) d e h = getD-any l i d e (omega arith)

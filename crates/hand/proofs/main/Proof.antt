@@ -1,12 +1,15 @@
--- `hand::main` is safe and ends. The loop's invariant: the arrays keep their lengths. The measure is the turns left. Assumes nothing.
+-- `hand::main` is safe and ends. The loop's invariant: the arrays keep their lengths, and at most 64 changes are kept, as the laws of undo ask.
+-- The measure is the turns left. Assumes nothing.
+use Rattle.undo.proofs.History.{line-kept}
 use mathlib.Core.Path.{_≡_}
 use lib.ListN.{length}
 use borrow.Author.Needs.{needs}
+use Prim.Native.Nat.{_≤_}
 use Rattle.hand.proofs.main.Statement.{statement}
 use Rattle.hand.proofs.main.Tie as tie
 
 abbrev Inv-loop : tie.InvT-loop
-Inv-loop piece₀ room₀ feed₀ past₀ kept₀ turns₀ typing piece room feed past kept turns = (length piece ≡ 4096) × (length room ≡ 1000) × (length past ≡ 65)
+Inv-loop piece₀ room₀ feed₀ past₀ kept₀ turns₀ typing piece room feed past kept turns = (length piece ≡ 4096) × (length room ≡ 1000) × (length past ≡ 65) × (kept .count ≤ 64)
 
 abbrev μ-loop : tie.MeasureT-loop
 μ-loop piece₀ room₀ feed₀ past₀ kept₀ turns₀ typing piece room feed past kept turns = turns
@@ -62,6 +65,9 @@ mul-past c = search needs
 array-set-from-past : tie.Need-array-set-from-past Inv-loop μ-loop
 array-set-from-past c = search needs
 
+tell-requires : tie.Need-tell-requires Inv-loop μ-loop
+tell-requires c κs = search needs
+
 one-less-requires : tie.Need-one-less-requires Inv-loop μ-loop
 one-less-requires c κs = search needs
 
@@ -69,7 +75,9 @@ loop-less : tie.Need-loop-less Inv-loop μ-loop
 loop-less c = search needs
 
 loop-again : tie.Need-loop-again Inv-loop μ-loop
-loop-again c = search needs
+loop-again c = let more = c .before .before .before .before .before in
+    let v = more .before .before .before .before .before .before .before .before .before .before .before .before .loop in
+    (search needs, search needs, search needs, line-kept (v .kept) (more .one-more .result) (c .one-less .result) _ _ (more .one-more .ensures) (c .one-less .ensures) (v .inv .3))
 
 returns-2 : tie.Need-returns-2 Inv-loop μ-loop
 returns-2 c = search needs
@@ -97,6 +105,7 @@ main-spec =
     place-requires-2
     mul-past
     array-set-from-past
+    tell-requires
     one-less-requires
     loop-less
     loop-again

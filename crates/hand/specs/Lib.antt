@@ -1,0 +1,2 @@
+-- What the program hears of a typed line.
+pub mod Heard

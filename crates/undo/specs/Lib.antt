@@ -1,0 +1,2 @@
+-- What undo can take back, as definitions.
+pub mod Undo
