@@ -7,7 +7,7 @@ use native.Mathlib.Omega.{arith}
 use native.Mathlib.Decide.{ℕ-discrete}
 use native.Mathlib.Numerals.{add-one}
 use native.Mathlib.Nat.{div-lt-iff-lt-mul, one-mul}
-use lib.Bits.{bitAnd, bitOr, or-zero-l, or-add-and, and-le-l, and-le-r}
+use lib.Bits.{bitAnd, bitOr, and-le-l}
 use lib.Pow.{pow-pos, pow-mono}
 use lib.Dec.{eqb, ltb, leb·suc-suc, leb·suc-zero, eqb·suc-zero}
 use lib.ListN.{length, getD}
@@ -21,7 +21,7 @@ use Rattle.rules.specs.Lists.{noEntries}
 use Rattle.rules.specs.Board.{noFlight, isMessage}
 use Rattle.sums.proofs.Sums.{read-at}
 use Rattle.shape.specs.Stand.{RowFits, kindIn}
-use Rattle.rules.proofs.Bits.{taken-and, taken-zero, empty-from}
+use Rattle.rules.proofs.Bits.{taken-and, taken-zero, empty-from, or-none}
 use Rattle.rules.proofs.Tables.{same-test, both, all-at, all-from, all-fail}
 
 -- ---- tests one after another, each of which may end with false
@@ -71,11 +71,6 @@ up-to-le k c n h = go (ltb k c)
     go false = omega arith
 
 -- ---- a row, with what is wrong gathered
-or-none : (a b : ℕ) → eqb (bitOr a b) 0 ≡ eqb a 0 && eqb b 0
-or-none zero b = rw or-zero-l
-or-none (suc a) b =
-    rw (ne-eqb (bitOr (suc a) b) 0 (λ z. omega (arith, z, or-add-and (suc a) b, and-le-r (suc a) b)), eqb·suc-zero)
-
 -- a digit marked beside what was gathered
 pub marked-none : (a n k : ℕ) → eqb (bitOr a (digit n k)) 0 ≡ eqb a 0 && not (taken n k)
 unfolding taken digit

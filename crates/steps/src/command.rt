@@ -1,13 +1,13 @@
 // A command from its two bytes.
 ghost use mathlib.Core.Path.{_≡_};
+ghost use mathlib.Core.List.{[], _∷_};
 ghost use Prim.Native.Nat.{_+_, _*_, _<_};
 ghost use lib.ListN.{length};
 ghost use Rattle.rules.specs.Sheet.{commandAt};
-ghost use Rattle.rules.proofs.Sheet.{ofBytes};
 use rules::Command;
 
 fn command_of(hi: u8, lo: u8) -> Command
-    ensures { λ r. ⌜ r ≡ ofBytes hi lo ⌝ }
+    ensures { λ r. ⌜ r ≡ commandAt (hi ∷ lo ∷ []) 0 ⌝ }
 {
     let p = hi / 4 % 16;
     let o = hi % 4 * 4 + lo / 64;

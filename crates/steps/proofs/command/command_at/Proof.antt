@@ -1,5 +1,6 @@
 -- `steps::command::command_at` meets its contract: a command stands in two bytes. Assumes nothing.
 use mathlib.Core.Path.{sym, _∙_}
+use mathlib.Core.List.{[], _∷_}
 use Prim.Native.Nat.{_+_, _*_}
 use borrow.Author.Needs.{needs}
 use Rattle.rules.proofs.Sheet.{command-bytes}
@@ -28,7 +29,7 @@ returns : tie.Need-returns
 returns c =
     let a = c .before .before .before .before .args in
     let byte = c .before .before .before .shared-slice-known .given in
-    c .command-of .ensures ∙ sym (command-bytes (a .part .now) (a .i) (byte (2 * a .i) .fits) (byte (2 * a .i + 1) .fits))
+    c .command-of .ensures ∙ command-bytes (_ ∷ _ ∷ []) 0 (byte (2 * a .i) .fits) (byte (2 * a .i + 1) .fits) ∙ sym (command-bytes (a .part .now) (a .i) (byte (2 * a .i) .fits) (byte (2 * a .i + 1) .fits))
 
 pub command-at-spec : {M : Type 1} → statement M
 command-at-spec =

@@ -11,13 +11,13 @@ add-o : tie.Need-add-o
 add-o c = search needs
 
 returns : tie.Need-returns
-returns c = release (c .before .args .hi) (c .before .args .lo) (c .match .keys1)
+returns c = release (c .before .args .hi) (c .before .args .lo) (search needs) (search needs) (c .match .keys1)
 
 returns-2 : tie.Need-returns-2
-returns-2 c = request (c .before .before .args .hi) (c .before .before .args .lo) (c .if1 .taken)
+returns-2 c = request (c .before .before .args .hi) (c .before .before .args .lo) (search needs) (search needs) (c .if1 .taken)
 
 returns-3 : tie.Need-returns-3
-returns-3 c = delivery (c .before .before .args .hi) (c .before .before .args .lo) (c .if1 .left) (c .before .match .rest .1)
+returns-3 c = delivery (c .before .before .args .hi) (c .before .before .args .lo) (search needs) (search needs) (c .if1 .left) (c .before .match .rest .1)
 
 pub command-of-spec : {M : Type 1} → statement M
 command-of-spec = tie.close (tie.spec mul-o add-o returns returns-2 returns-3)
