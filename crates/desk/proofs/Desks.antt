@@ -60,10 +60,10 @@ module _ (d : Desk) (t : Typed) where
         ∙ ap (λ (y : Site). steppedBy (Rules.step (d .board) c) y d t) acts
         ∙ ap (λ (y : Command). steppedBy (Rules.step (d .board) y) (Senders.actsAt (d .board) y) d t) asked
 
-    pub step-refused : k ≢ 0 → x ≡ told d (s .answer) 0 (w .freed) false → x ≡ stepped d t
+    pub step-refused : k ≢ 0 → x ≡ told d (s .answer) 0 64 false → x ≡ stepped d t
     step-refused h e = e ∙ refused ∙ whole
       where
-        refused : told d (s .answer) 0 (w .freed) false ≡ steppedBy s w d t
+        refused : told d (s .answer) 0 64 false ≡ steppedBy s w d t
         refused = rw (ne-eqb (number (s .answer)) 0 (λ q. h (g ∙ q)))
 
     pub step-taken : (m : Desk) → k ≡ 0 → m ≡ moved d (s .board) w t → x ≡ told m (s .answer) 0 (w .freed) true → x ≡ stepped d t

@@ -58,7 +58,7 @@ opened d t = openedBy (Asked.opened t) d t
 
 -- a command: the board that it made where it is not refused
 abbrev pub steppedBy : Stepped → Site → Desk → Typed → Acted
-steppedBy s w d t = pick (done (s .answer)) (told (moved d (s .board) w t) (s .answer) 0 (w .freed) true) (told d (s .answer) 0 (w .freed) false)
+steppedBy s w d t = pick (done (s .answer)) (told (moved d (s .board) w t) (s .answer) 0 (w .freed) true) (told d (s .answer) 0 64 false)
 
 unfoldable pub stepped : Desk → Typed → Acted
 stepped d t = steppedBy (Rules.step (d .board) (Asked.command t)) (Senders.actsAt (d .board) (Asked.command t)) d t

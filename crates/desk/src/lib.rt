@@ -116,7 +116,7 @@ fn step(desk: Desk, t: Typed) -> Acted
     let s = bench::step(old, command);
     let answer = s.answer;
     if values::answer::number(answer) != 0 {
-        return told(desk, answer, 0, site.freed, false);
+        return told(desk, answer, 0, 64, false);
     }
     let board = s.board;
     told(moved(desk, board, site, t), answer, 0, site.freed, true)

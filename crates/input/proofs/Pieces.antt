@@ -8,7 +8,7 @@ use lib.ListN.{length, take, drop, length-append, length-take}
 use lib.Seq.{take-all, take-append-le, take-append-add, take-at, length-take-le, length-sets, drop-length}
 use Rattle.text.specs.Text.{written, Wrote}
 use Rattle.text.proofs.Text.{written-parts}
-use Rattle.input.specs.Input.{Taken, behind}
+use Rattle.input.specs.Input.{behind, Pieces, none, one, Taken, PiecesTaken}
 
 -- nothing was read yet
 pub taken-none : (buffer : List ℕ) → Taken [] buffer 0
@@ -71,9 +71,17 @@ module _ (buffer w p : List ℕ) (n : ℕ) (size : length buffer ≡ 65536) (t :
     whole = ap (λ (k : ℕ). k + length p) (t .whole) ∙ sym (length-append w p);
   }
 
--- of some input, and of one that is longer by a piece
-pub some-more : (buffer p : List ℕ) (n : ℕ) {after : List ℕ} {m : ℕ} → length buffer ≡ 65536 → ((w : List ℕ) × Taken w buffer n) → after ≡ behind buffer n p → m ≡ n + length p → ((w : List ℕ) × Taken w after m)
-some-more buffer p n size t e f = rw (e, f) (t .0 ++ p, taken-more buffer (t .0) p n size (t .1))
+pieces-length : (old w buffer : List ℕ) (n : ℕ) → Pieces old w buffer n → length buffer ≡ length old
+pieces-length old w buffer n none = refl
+pieces-length old w buffer n (one {w = v} {buffer = before} {n = m} r p) = behind-length before m p ∙ pieces-length old v before m r
+
+pub pieces-taken : PiecesTaken
+pieces-taken old w buffer n size none = taken-none old
+pieces-taken old w buffer n size (one {w = v} {buffer = before} {n = m} r p) = taken-more before v p m (pieces-length old v before m r ∙ size) (pieces-taken old v before m size r)
+
+-- some pieces were taken in, and one more
+pub some-more : (old buffer p : List ℕ) (n : ℕ) {after : List ℕ} {m : ℕ} → ((w : List ℕ) × Pieces old w buffer n) → after ≡ behind buffer n p → m ≡ n + length p → ((w : List ℕ) × Pieces old w after m)
+some-more old buffer p n t e f = rw (e, f) (t .0 ++ p, one (t .1) p)
 
 pub as-long : (buffer p : List ℕ) (n : ℕ) {after : List ℕ} → length buffer ≡ 65536 → after ≡ behind buffer n p → length after ≡ 65536
 as-long buffer p n size e = rw e (behind-length buffer n p ∙ size)

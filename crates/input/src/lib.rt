@@ -4,7 +4,7 @@ ghost use mathlib.Core.Path.{_≡_};
 ghost use mathlib.Core.List.{List};
 ghost use Prim.Native.Nat.{ℕ, _+_, _<_, _≤_, _^_};
 ghost use lib.ListN.{length};
-ghost use Rattle.input.specs.Input.{behind, Taken};
+ghost use Rattle.input.specs.Input.{behind, Pieces};
 use text::start;
 use text::word;
 
@@ -20,11 +20,12 @@ fn taken(first: &mut [u8; 65536], total: usize, piece: &[u8]) -> usize
     total + piece.len()
 }
 
-// All of the input, piece by piece; a read that fails is its end. A proved loop has to end, so it counts its turns, up to a number that no
-// input reaches.
+// Piece by piece, until a read hands over less than it was asked for: that is the input's end, or a read that failed. Its contract says that
+// pieces were taken in and nothing else was done, and not which: no contract says what a read hands over. A proved loop has to end, so it
+// counts its turns, up to a number that no input reaches.
 pub fn whole(fd: i32, first: &mut [u8; 65536]) -> usize
     requires { ⌜ length (now first) ≡ 65536 ⌝ }
-    ensures { λ r. ⌜ (65536 ≡ length (now (first .exit))) × ((w : List ℕ) × Taken w (now (first .exit)) r) ⌝ }
+    ensures { λ r. ⌜ (65536 ≡ length (now (first .exit))) × ((w : List ℕ) × Pieces (now (first .entry)) w (now (first .exit)) r) ⌝ }
 {
     let mut piece = io::large_buffer();
     let mut total: usize = 0;

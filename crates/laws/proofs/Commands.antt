@@ -22,7 +22,7 @@ use Rattle.rules.specs.Commands.{requested, released, effect, answerTo, turn}
 use Rattle.rules.specs.Shape.{inShape}
 use Rattle.rules.proofs.Load.{send-sent}
 use Rattle.laws.specs.Shape.{Sized}
-use Rattle.laws.specs.Local.{processHome, SameTable, Elsewhere, CommandOf, request, release, noted, sentBy, overloaded, OnlyBook, SameCommand, CommandLocal}
+use Rattle.laws.specs.Local.{processHome, SameTable, SameCounts, Elsewhere, CommandOf, request, release, noted, sentBy, overloaded, OnlyBook, SameCommand, CommandLocal}
 use Rattle.laws.proofs.Tables.{by-pick}
 use Rattle.laws.proofs.Local.{same-table, send-untouched, set-agree}
 use Rattle.laws.proofs.Sizes.{send-rings}
@@ -75,7 +75,7 @@ command-all b p x k s e a = turn-done b x a ∙ does b p x k ∙ sent x k a
     sent z (release o) d = send-sent _ _ refl (room-enough .release b p o s e d)
 
 -- ---- two boards that agree on the counts, on the book of the process and on the load's being too high
-module _ (b c : Board) (p : ℕ) (t : SameTable b c) (e : processAt b p ≡ processAt c p) where
+module _ (b c : Board) (p : ℕ) (t : SameCounts b c) (e : processAt b p ≡ processAt c p) where
   answer-same : (x : Command) → CommandOf p x → overloaded x b ≡ overloaded x c → answerTo b x ≡ answerTo c x
   unfolding answerTo
   answer-same x (request o m) w = λ i. firstOf ((leb (t .processCount i) p, NoProcess) ∷ (leb (t .objectCount i) o, NoObject) ∷ (ltb 1 m, NoMode) ∷ (isWaiting (e i .wait), ProcessWaits) ∷ (e i .released, HasReleased) ∷ (holding (e i) o, HoldsAlready) ∷ (w i, LoadTooHigh) ∷ [])

@@ -159,6 +159,11 @@ pub record OnlyBook (b c : Board) (p : ℕ) : Type 0 where
   pub objects : c .objects ≡ b .objects
   pub rings : c .rings ≡ b .rings
 
+-- two boards have as many processes and as many objects
+pub record SameCounts (b c : Board) : Type 0 where
+  pub processCount : b .«process_count» ≡ c .«process_count»
+  pub objectCount : b .«object_count» ≡ c .«object_count»
+
 -- what two boards make of a command has in common
 pub record SameCommand (b c : Board) (x : Command) (p : ℕ) : Type 0 where
   pub answer : turn b x .answer ≡ turn c x .answer
@@ -172,8 +177,8 @@ pub record CommandLocal : Type 0 where
   pub table : (b : Board) (p : ℕ) (x : Command) → CommandOf p x → SameTable b (turn b x .board)
   pub only : (b : Board) (p : ℕ) (x : Command) → CommandOf p x → OnlyBook b (turn b x .board) p
   pub elsewhere : (b : Board) (p : ℕ) (x : Command) → CommandOf p x → Elsewhere b (turn b x .board) (processHome b p)
-  -- and it is decided by the command, the counts, the book of its process and whether the load is too high
-  pub same : (b c : Board) (p : ℕ) (x : Command) → CommandOf p x → Sized b → Sized c → SameTable b c → processAt b p ≡ processAt c p → overloaded x b ≡ overloaded x c → SameCommand b c x p
+  -- and it is decided by the command, how many processes and objects there are, the book of its process and whether the load is too high
+  pub same : (b c : Board) (p : ℕ) (x : Command) → CommandOf p x → Sized b → Sized c → SameCounts b c → processAt b p ≡ processAt c p → overloaded x b ≡ overloaded x c → SameCommand b c x p
 
 -- ---- room
 -- "A delivery is never short of room." Nor is an accepted request or release, nor the line of an object at which a request arrives.

@@ -3,5 +3,5 @@
 use listed::Way;
 
 fn main() {
-    listed::show(Way::InTurns);
+    listed::show(Way::BySteps);
 }

@@ -5,7 +5,7 @@ ghost use lib.ListN.{length};
 // How a sheet is run: all its commands in one call, or each by a call of its own.
 pub enum Way {
     AtOnce,
-    InTurns,
+    BySteps,
 }
 
 fn sheet(name: &[u8], way: Way) {
@@ -22,7 +22,7 @@ fn sheet(name: &[u8], way: Way) {
     libc::close(fd);
     match way {
         Way::AtOnce => report::show(&bytes, whole),
-        Way::InTurns => steps::show(text::start(&bytes, sheet::kept(whole))),
+        Way::BySteps => steps::show(text::start(&bytes, sheet::kept(whole))),
     }
 }
 
@@ -53,6 +53,7 @@ fn every_sheet(names: &[u8], way: Way) {
     }
 }
 
+// Every sheet that `names` lists, in its order.
 pub fn show(way: Way) {
     let fd = os::open_read(b"names");
     if fd < 0 {

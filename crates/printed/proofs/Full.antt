@@ -10,9 +10,13 @@ use Rattle.rules.specs.Commands.{recording, requested, released, delivered, eff
 use Rattle.rules.specs.Shape.{holdsFit, rowFits, different, countsFit, processFits, objectFits, listFits, noList, messageFits, ringFits, standing, inShape, step, drain}
 use Rattle.rules.specs.Sheet.{field, homesFrom, commandAt, commandSpare, boardAfter, roomAfter, readerAnswer, commandsPart, sheetAnswer, runSheet}
 use Rattle.text.specs.Text.{digits, decimal, afterSpaces, spaced, lineOf, flat, atMost}
+use Rattle.rules.proofs.Cases.{table-holds}
 use Rattle.printed.specs.Lines.{entry, holderEntries, lineEntries, objectLine, objectLines, ringEntries, ringLine, ringLines, lastLine, commandLine, commandLines, refusedLine, printed, printedSheet}
-use Rattle.printed.specs.Full.{TextsHold, texts}
+use Rattle.printed.specs.Full.{TextsHold, PaperHolds, texts}
 
 pub texts-hold : TextsHold
 unfolding rows collect placeOf among all sum digit taken withBit withoutBit freeFrom lowestFree takenFrom lowestTaken firstOf holdIn rival rivals clear placeIn joined ahead waitedFor welcome settled releaseArrives listed addOne addAll entryDone started alongLeads listAtObject keeping requestArrives putFirst send sendGrants load tally recording requested released delivered effect answerTo turn draining homesOf opening field homesFrom commandAt commandSpare boardAfter roomAfter readerAnswer commandsPart sheetAnswer runSheet digits decimal afterSpaces spaced lineOf flat atMost entry holderEntries lineEntries objectLine objectLines ringEntries ringLine ringLines lastLine commandLine commandLines refusedLine printed printedSheet texts
 texts-hold = (refl, (refl, (refl, (refl, (refl, (refl, (refl, tt)))))))
+
+pub paper-holds : PaperHolds
+paper-holds = (table-holds, texts-hold)

@@ -16,7 +16,7 @@ use Rattle.rules.specs.Answers.{number, done}
 use Rattle.rules.specs.Book.{holderAt, whoAt, modeAt}
 use Rattle.rules.specs.Board.{objectAt, ringAt, inFlight, tally}
 use Rattle.rules.specs.Sheet.{runSheet}
-use Rattle.text.specs.Text.{decimal, lineOf, flat, atMost}
+use Rattle.text.specs.Text.{bytes, decimal, lineOf, flat, atMost}
 
 -- ---- object lines
 -- "with S or X"
@@ -54,7 +54,7 @@ unfoldable pub ringEntries : Ring → List (List ℕ)
 ringEntries r = rows (atMost 16 (r .count)) (λ k. decimal (getD (r .processes) k 0))
 
 abbrev pub wordRing : List ℕ
-wordRing = 114 ∷ 105 ∷ 110 ∷ 103 ∷ []
+wordRing = bytes "ring"
 
 unfoldable pub ringLine : Ring → List ℕ
 ringLine r = pick (eqb (r .count) 0) [] (lineOf (wordRing ∷ ringEntries r))
@@ -64,10 +64,10 @@ ringLines b = flat 16 (λ s. ringLine (ringAt b s))
 
 -- ---- "Last: messages in flight and tally.", as in `messages 0 rings 2`
 abbrev pub wordMessages : List ℕ
-wordMessages = 109 ∷ 101 ∷ 115 ∷ 115 ∷ 97 ∷ 103 ∷ 101 ∷ 115 ∷ []
+wordMessages = bytes "messages"
 
 abbrev pub wordRings : List ℕ
-wordRings = 114 ∷ 105 ∷ 110 ∷ 103 ∷ 115 ∷ []
+wordRings = bytes "rings"
 
 unfoldable pub lastLine : Board → List ℕ
 lastLine b = lineOf (wordMessages ∷ decimal (countOf 64 (inFlight b)) ∷ wordRings ∷ decimal (tally b) ∷ [])
@@ -81,7 +81,7 @@ commandLines n room = flat (atMost 4096 n) (λ i. commandLine i (getD room i 0))
 
 -- ---- "For a refused sheet it prints only `sheet` and the number."
 abbrev pub wordSheet : List ℕ
-wordSheet = 115 ∷ 104 ∷ 101 ∷ 101 ∷ 116 ∷ []
+wordSheet = bytes "sheet"
 
 unfoldable pub refusedLine : ℕ → List ℕ
 refusedLine n = lineOf (wordSheet ∷ decimal n ∷ [])

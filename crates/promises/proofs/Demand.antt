@@ -38,12 +38,11 @@ module _ (b : Board) (s : Sound b) where
   fill : (q : ℕ) → Filled b q → FilledM (seen b .place q)
   fill q h = filled-to (ringAt b q .count) _ h
 
-  rings-true : Reached b → RingsTrue b
-  rings-true r = record {
+  rings-true : RingsTrue b
+  rings-true = record {
     ring = λ q h. ring-from b (recorded b q) (recorded-true (seen b) (s .reach) q (fill q h));
     later = later;
     first = λ q h. recorded-own (seen b) (s .reach) q (fill q h);
-    own = own-reached .place b r;
   }
     where
       later : (c : Board) → Later b c → (q : ℕ) → Filled b q → (recorded c q ≡ recorded b q) × IsRing c (recorded b q)
@@ -64,12 +63,11 @@ module _ (b : Board) (s : Sound b) where
         way = (drain b 1920 .made, drain b 1920 .board, at-most s (d .made), any-order (d .made), drain-enough b s 1920 (omega arith));
       }
 
-  at-rest : Reached b → Quiet b → AtRest b
-  at-rest r q = record {
+  at-rest : Quiet b → AtRest b
+  at-rest q = record {
     found = λ l h.
         let k = all-found (seen b) (s .reach) still l (ring-to b l h) in
-        let f : Filled b (k .0) = filled-from (ringAt b (k .0) .count) _ (k .2) in
-        (k .0, has-from (k .0) l (k .1), f, own-reached .place b r (k .0) f);
+        (k .0, has-from (k .0) l (k .1), filled-from (ringAt b (k .0) .count) _ (k .2));
     agreeHolds = λ p o m.
         let k = agree-holds (seen b) (s .reach) still p o (isExclusive m) in
         ((λ e. hold-back _ m (k .0 (ap holdSeen e))), λ e. hold-back _ m (k .1 (ap holdSeen e)));
@@ -109,7 +107,7 @@ module _ (b : Board) (r : Reached b) where
   s = sound r
 
   demand-3 : Demand3 b
-  demand-3 = record { rings = rings-true b s r; ends = ends b s; atRest = λ n c d. at-rest c (delivered-sound s d) (later-reached r (deliveries-later now d)); noConflict = apart b s }
+  demand-3 = record { rings = rings-true b s; ends = ends b s; atRest = λ n c d. at-rest c (delivered-sound s d); noConflict = apart b s }
 
   drains : (n : ℕ) → Drains b n
   drains n =
@@ -130,7 +128,7 @@ module _ (b : Board) (r : Reached b) where
   paper = record { loadAtMost = s .good .shaped .load; fits = fits b s; drains = drains; blocked = waits; runs = run-later b s }
 
 pub demand-holds : DemandHolds
-demand-holds b r = record { demand3 = demand-3 b r; paper = paper b r }
+demand-holds b r = record { demand3 = demand-3 b r; own = own-reached .place b r; paper = paper b r }
 
 pub sheets-reach : SheetsReach
 sheets-reach = sheet-reached

@@ -26,9 +26,8 @@ use Rattle.laws.specs.Own.{OwnRing}
 pub record RingsTrue (b : Board) : Type 0 where
   pub ring : (s : ℕ) → Filled b s → IsRing b (recorded b s)
   pub later : (c : Board) → Later b c → (s : ℕ) → Filled b s → (recorded c s ≡ recorded b s) × IsRing c (recorded b s)
-  -- the ring at the place of s begins with s, and it was the own list of s that recorded it
+  -- the ring at the place of s begins with s
   pub first : (s : ℕ) → Filled b s → (l : List ℕ) × (recorded b s ≡ s ∷ l)
-  pub own : (s : ℕ) → Filled b s → OwnRing s b
 
 -- "If only deliveries follow, in any order, each message present can be delivered, and after at most 1,920 deliveries none is left."
 -- While a message is present, a run of deliveries can go on, and no run is longer than 1,920. The empty run is one, so this speaks of b too.
@@ -45,9 +44,9 @@ abbrev pub Notes : Board → ℕ → ℕ → Mode → Type 0
 Notes b p o m = processAt b p .wait ≡ Waiting o m
 
 -- "Then every ring of waits that exists holds a process whose own list recorded a ring, and homes and objects agree on who holds
--- and who waits." Homes are those of processes.
+-- and who waits." Homes are those of processes. Where place s is filled, it was s's own list that recorded: `own`, below.
 pub record AtRest (b : Board) : Type 0 where
-  pub found : (l : List ℕ) → IsRing b l → (s : ℕ) × Among s l × Filled b s × OwnRing s b
+  pub found : (l : List ℕ) → IsRing b l → (s : ℕ) × Among s l × Filled b s
   pub agreeHolds : (p o : ℕ) (m : Mode) → Holds b p o m ↔ Holder b o p m
   pub agreeWaits : (p o : ℕ) (m : Mode) → Notes b p o m ↔ ((k : ℕ) × Stands b o k p m)
 
@@ -91,9 +90,12 @@ pub record Paper (b : Board) : Type 0 where
   -- `run`, one call for many commands, which the paper does not name, leads where commands lead
   pub runs : (s room : List ℕ) → Later b (run b s room .ran .board)
 
--- ---- both, of any board reached
+-- ---- all of it, of any board reached
 pub record Demand (b : Board) : Type 0 where
   pub demand3 : Demand3 b
+  -- demand 3 is over waits, rings and filled places; that "own list" is meant by a filled place is this: it was the own list of s that
+  -- recorded the ring at the place of s
+  pub own : (s : ℕ) → Filled b s → OwnRing s b
   pub paper : Paper b
 
 -- "Take any board reached from an opening by any commands, refused ones included."

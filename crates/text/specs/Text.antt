@@ -1,5 +1,7 @@
--- Text as a list of bytes: a number in decimal, words parted by spaces, lines one after another; and bytes put into a lent buffer at a place.
+-- Text as a list of bytes: letters, a number in decimal, words parted by spaces, lines one after another; and bytes put into a lent buffer at a place.
 use Prim.Native.Nat.{ℕ, zero, suc, _+_, _-_, _*_, _/_, _%_}
+use Prim.Native.Char.{code}
+use Prim.Native.String as Text
 use mathlib.Core.Path.{_≡_}
 use mathlib.Core.Bool.{Bool, true, false}
 use mathlib.Core.List.{List, [], _∷_, _++_}
@@ -7,6 +9,11 @@ use lib.Dec.{ltb}
 use lib.ListN.{length}
 use lib.Seq.{sets}
 use Rattle.rules.specs.Tables.{pick}
+
+-- ---- letters
+abbrev pub bytes : Text.String → List ℕ
+bytes Text.[] = []
+bytes (Text._∷_ c s) = code c ∷ bytes s
 
 -- ---- a number in decimal
 -- the digits of n, highest first, without leading zeros; d is how many there may be
@@ -43,7 +50,7 @@ unfoldable pub flat : {A : Type 0} → ℕ → (ℕ → List A) → List A
 flat zero f = []
 flat (suc n) f = flat n f ++ f n
 
--- a count is never above its limit; one that is counts as the limit
+-- a count above its limit counts as the limit; no board in shape has one
 unfoldable pub atMost : ℕ → ℕ → ℕ
 atMost top n = pick (ltb n top) n top
 

@@ -6,6 +6,7 @@ ghost use Prim.Native.Nat.{_+_, _<_, _≤_};
 ghost use lib.ListN.{length, take};
 ghost use Rattle.text.specs.Text.{decimal, atMost, Wrote};
 
+// One byte.
 pub fn put(out: &mut [u8; 65536], at: usize, x: u8) -> usize
     requires { ⌜ at < 65536 ⌝ }
     ensures { λ r. ⌜ (Wrote (now (out .entry)) at (x ∷ []) (now (out .exit)) r) × (r ≡ at + 1) ⌝ }
@@ -14,6 +15,7 @@ pub fn put(out: &mut [u8; 65536], at: usize, x: u8) -> usize
     at + 1
 }
 
+// Bytes one after another.
 pub fn word(out: &mut [u8; 65536], at: usize, letters: &[u8]) -> usize
     requires { ⌜ at + length (now letters) ≤ 65536 ⌝ }
     ensures { λ r. ⌜ (Wrote (now (out .entry)) at (now (letters .entry)) (now (out .exit)) r) × (r ≡ at + length (now (letters .entry))) ⌝ }

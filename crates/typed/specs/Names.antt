@@ -1,19 +1,14 @@
 -- The names of the verbs and of the modes, each in a long and a short form; upper and lower case letters are alike.
 use Prim.Native.Nat.{ℕ, suc, _+_, _/_}
-use Prim.Native.Char.{code}
-use Prim.Native.String as Text
 use mathlib.Core.Bool.{Bool, true, false, _&&_}
 use mathlib.Core.List.{List, [], _∷_}
 use lib.Dec.{eqb, leb}
 use lib.ListN.{getD}
 use Rattle.rules.specs.Tables.{pick}
+pub use Rattle.text.specs.Text.{bytes}
 use Rattle.typed.specs.declared.Verb.{Verb}
 use Rattle.typed.specs.declared.Verb.the-variants.{Open, Request, Release, Deliver, Drain, Show, Waits, Rings, Undo, Help, Quit, Unknown}
 use Rattle.typed.specs.Words.{words}
-
-abbrev pub bytes : Text.String → List ℕ
-bytes Text.[] = []
-bytes (Text._∷_ c s) = code c ∷ bytes s
 
 -- the letter in lower case; any other byte as it is
 abbrev pub lower : ℕ → ℕ

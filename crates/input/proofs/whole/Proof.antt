@@ -4,13 +4,13 @@ use mathlib.Core.List.{List, []}
 use Prim.Native.Nat.{ℕ, _*_, _-_, _≤_}
 use lib.ListN.{length}
 use borrow.Author.Needs.{needs}
-use Rattle.input.specs.Input.{Taken}
-use Rattle.input.proofs.Pieces.{taken-none, some-more, as-long}
+use Rattle.input.specs.Input.{Pieces, none}
+use Rattle.input.proofs.Pieces.{some-more, as-long}
 use Rattle.input.proofs.whole.Statement.{statement}
 use Rattle.input.proofs.whole.Tie as tie
 
 abbrev Inv-loop : tie.InvT-loop
-Inv-loop fd first₀ piece₀ total₀ turns₀ first piece total turns = (turns ≤ 70368744177664) × (total ≤ 65536 * turns) × (length piece ≡ 65536) × (length first ≡ 65536) × ((w : List ℕ) × Taken w first total)
+Inv-loop fd first₀ piece₀ total₀ turns₀ first piece total turns = (turns ≤ 70368744177664) × (total ≤ 65536 * turns) × (length piece ≡ 65536) × (length first ≡ 65536) × ((w : List ℕ) × Pieces first₀ w first total)
 
 abbrev μ-loop : tie.MeasureT-loop
 μ-loop fd first₀ piece₀ total₀ turns₀ first piece total turns = 70368744177664 - turns
@@ -19,7 +19,7 @@ large-buffer-requires : tie.Need-large-buffer-requires Inv-loop μ-loop
 large-buffer-requires c κs = search needs
 
 loop-holds : tie.Need-loop-holds Inv-loop μ-loop
-loop-holds c = (search needs, search needs, search needs, search needs, ([], taken-none _))
+loop-holds c = (search needs, search needs, search needs, search needs, ([], none))
 
 slice-aggregate-read-full : tie.Need-slice-aggregate-read-full Inv-loop μ-loop
 slice-aggregate-read-full c = search needs
@@ -37,7 +37,7 @@ taken-requires : tie.Need-taken-requires Inv-loop μ-loop
 taken-requires c κs = search needs
 
 returns : tie.Need-returns Inv-loop μ-loop
-returns c = (sym (as-long _ _ _ (c .before .before .before .before .before .before .before .before .loop .inv .3) (c .before .taken .ensures .0)), some-more _ _ _ (c .before .before .before .before .before .before .before .before .loop .inv .3) (c .before .before .before .before .before .before .before .before .loop .inv .4) (c .before .taken .ensures .0) (c .before .taken .ensures .1))
+returns c = (sym (as-long _ _ _ (c .before .before .before .before .before .before .before .before .loop .inv .3) (c .before .taken .ensures .0)), some-more _ _ _ _ (c .before .before .before .before .before .before .before .before .loop .inv .4) (c .before .taken .ensures .0) (c .before .taken .ensures .1))
 
 add-turns : tie.Need-add-turns Inv-loop μ-loop
 add-turns c = search needs
@@ -46,7 +46,7 @@ loop-less : tie.Need-loop-less Inv-loop μ-loop
 loop-less c = search needs
 
 loop-again : tie.Need-loop-again Inv-loop μ-loop
-loop-again c = (search needs, search needs, search needs, as-long _ _ _ (c .before .before .before .before .before .before .before .before .loop .inv .3) (c .before .taken .ensures .0), some-more _ _ _ (c .before .before .before .before .before .before .before .before .loop .inv .3) (c .before .before .before .before .before .before .before .before .loop .inv .4) (c .before .taken .ensures .0) (c .before .taken .ensures .1))
+loop-again c = (search needs, search needs, search needs, as-long _ _ _ (c .before .before .before .before .before .before .before .before .loop .inv .3) (c .before .taken .ensures .0), some-more _ _ _ _ (c .before .before .before .before .before .before .before .before .loop .inv .4) (c .before .taken .ensures .0) (c .before .taken .ensures .1))
 
 returns-2 : tie.Need-returns-2 Inv-loop μ-loop
 returns-2 c = (sym (c .before .loop .inv .3), c .before .loop .inv .4)
