@@ -23,7 +23,7 @@ use Rattle.model.specs.Reach.{NoMessages}
 use Rattle.model.proofs.Tables.{some-not-none}
 use Rattle.model.proofs.Agreement.{wantedObject, wantedMode}
 use Rattle.model.proofs.Theorems.{recorded-true, recorded-own, recorded-later, all-found, agree-holds, agree-waits, no-conflict, no-conflict-objects, blocked}
-use Rattle.promises.specs.Demand.{RingsTrue, Ends, AtRest, NoConflict, Demand3, Fits, Drains, Paper, DemandHolds, SheetsReach}
+use Rattle.promises.specs.Demand.{RingsTrue, Ends, AtRest, NoConflict, Demand3, Fits, Drains, Paper, DemandHolds, SheetsReach, SheetsWithin}
 use Rattle.promises.proofs.Seen.Tables.{has-from, filled-to, filled-from}
 use Rattle.promises.proofs.Seen.{holdSeen, waitSeen, seen}
 use Rattle.promises.proofs.Sends.{isThere, there-kind}
@@ -32,7 +32,7 @@ use Rattle.promises.proofs.Seen.Objects.{conflict-view}
 use Rattle.promises.proofs.Seen.Waits.{same-mode, hold-back, stands-in, in-stands, waits-from, ring-to, ring-from}
 use Rattle.promises.proofs.Reached.{Sound, sound, sound-shape, step-turn, step-present, later-seen, later-reached, deliveries-later, delivered-sound, any-order, at-most, one-more}
 use Rattle.promises.proofs.Drain.{drain-view, drain-enough, lowest-only}
-use Rattle.promises.proofs.Sheet.{run-later, sheet-reached}
+use Rattle.promises.proofs.Sheet.{run-later, sheet-reached, sheet-within}
 
 module _ (b : Board) (s : Sound b) where
   fill : (q : ℕ) → Filled b q → FilledM (seen b .place q)
@@ -132,3 +132,6 @@ demand-holds b r = record { demand3 = demand-3 b r; own = own-reached .place b r
 
 pub sheets-reach : SheetsReach
 sheets-reach = sheet-reached
+
+pub sheets-within : SheetsWithin
+sheets-within = sheet-within

@@ -11,11 +11,12 @@ use Prim.Native.Nat.{ℕ, _≤_}
 use Rattle.rules.specs.declared.Mode.{Mode}
 use Rattle.rules.specs.declared.Wait.the-variants.{Waiting}
 use Rattle.rules.specs.declared.Board.{Board}
+use Rattle.rules.specs.declared.Ran.{Ran}
 use Rattle.rules.specs.declared.Command.{Command}
 use Rattle.rules.specs.declared.Command.the-variants as Do
 use Rattle.rules.specs.declared.Answer.the-variants.{Done, OutOfShape}
 use Rattle.rules.specs.Book.{conflict}
-use Rattle.rules.specs.Board.{processAt, load}
+use Rattle.rules.specs.Board.{processAt, objectAt, ringAt, load}
 use Rattle.rules.specs.Shape.{inShape, step, drain}
 use Rattle.rules.specs.Sheet.{run, runSheet}
 use Rattle.rules.specs.Waits.{Holder, Holds, Stands, Waits, Among, IsRing, recorded, Filled, Present, Quiet, Reached, Later, Deliveries, LowestFirst}
@@ -105,3 +106,14 @@ DemandHolds = (b : Board) → Reached b → Demand b
 -- a sheet that ran ends on a reached board, so all of this page holds there
 abbrev pub SheetsReach : Type 0
 SheetsReach = (s room : List ℕ) → runSheet s room .ran .answer ≡ Done → Reached (runSheet s room .ran .board)
+
+-- "Limits: .. 1 to 16 objects, .. 4,096 commands in a sheet": what is printed of a sheet that ran is within its limits, so that none of it is
+-- cut (`atMost` in text/specs/Text.antt)
+pub record WithinLimits (r : Ran) : Type 0 where
+  pub commands : r .commands ≤ 4096
+  pub objects : r .board .«object_count» ≤ 16
+  pub line : (o : ℕ) → objectAt (r .board) o .«line_count» ≤ 16
+  pub ring : (s : ℕ) → ringAt (r .board) s .count ≤ 16
+
+abbrev pub SheetsWithin : Type 0
+SheetsWithin = (s room : List ℕ) → runSheet s room .ran .answer ≡ Done → WithinLimits (runSheet s room .ran)

@@ -50,7 +50,7 @@ unfoldable pub flat : {A : Type 0} → ℕ → (ℕ → List A) → List A
 flat zero f = []
 flat (suc n) f = flat n f ++ f n
 
--- a count above its limit counts as the limit; no board in shape has one
+-- a count above its limit counts as the limit; no sheet that runs has one (promises/specs/Demand.antt)
 unfoldable pub atMost : ℕ → ℕ → ℕ
 atMost top n = pick (ltb n top) n top
 
