@@ -5,6 +5,7 @@ ghost use mathlib.Core.List.{List};
 ghost use Prim.Native.Nat.{ℕ, _+_, _<_, _≤_, _^_};
 ghost use lib.ListN.{length};
 ghost use Rattle.input.specs.Input.{behind, Pieces};
+use program::Read;
 use text::start;
 use text::word;
 
@@ -20,23 +21,30 @@ fn taken(first: &mut [u8; 65536], total: usize, piece: &[u8]) -> usize
     total + piece.len()
 }
 
-// Piece by piece, until a read hands over less than it was asked for: that is the input's end, or a read that failed. Its contract says that
-// pieces were taken in and nothing else was done, and not which: no contract says what a read hands over. A proved loop has to end, so it
-// counts its turns, up to a number that no input reaches.
-pub fn whole(fd: i32, first: &mut [u8; 65536]) -> usize
+// Piece by piece, until the input ends or a read fails; what is handed back says which. Its contract says that pieces were taken in and
+// nothing else was done, and not which: no contract says what a read hands over. A proved loop has to end, so it counts its turns, up to a
+// number that no input reaches; one that did would count as failed, since its end was not read.
+pub fn whole(fd: i32, first: &mut [u8; 65536]) -> Read
     requires { ⌜ length (now first) ≡ 65536 ⌝ }
-    ensures { λ r. ⌜ (65536 ≡ length (now (first .exit))) × ((w : List ℕ) × Pieces (now (first .entry)) w (now (first .exit)) r) ⌝ }
+    ensures { λ r. ⌜ (65536 ≡ length (now (first .exit))) × ((w : List ℕ) × Pieces (now (first .entry)) w (now (first .exit)) (r .count)) ⌝ }
 {
     let mut piece = io::large_buffer();
     let mut total: usize = 0;
     let mut turns: usize = 0;
     while turns < 70368744177664 {
-        let n = io::read_full(fd, &mut piece);
-        total = taken(first, total, &piece[..n]);
-        if n < 65536 {
-            return total;
+        let got = program::read_some(fd, &mut piece);
+        let n = got.count;
+        if n == 0 {
+            return Read {
+                count: total,
+                failed: got.failed,
+            };
         }
+        total = taken(first, total, &piece[..n]);
         turns += 1;
     }
-    total
+    Read {
+        count: total,
+        failed: true,
+    }
 }

@@ -12,8 +12,8 @@ use text::start;
 
 mod lines;
 
-fn print(text: &[u8; 65536], n: usize) {
-    io::write_all(libc::STDOUT_FILENO, start(text, n));
+fn print(text: &[u8; 65536], n: usize) -> bool {
+    program::write(start(text, n))
 }
 
 // The two texts are the same, byte for byte.
@@ -34,14 +34,15 @@ pub fn composed(out: &mut [u8; 65536], first: &[u8], whole: usize) -> usize
     lines::report(out, ran, &room)
 }
 
-// Prints that.
-pub fn show(first: &[u8], whole: usize) {
+// Prints that. The answer is no where it could not be written, which has been told then.
+pub fn show(first: &[u8], whole: usize) -> bool {
     let mut out = io::large_buffer();
     let end = composed(&mut out, first, whole);
-    print(&out, end);
+    print(&out, end)
 }
 
-// For a sheet that was run in two ways: prints what came of the second, and a line if the first would print something else.
+// For a sheet that was run in two ways: prints what came of the second, and a line if the first would print something else. A write that
+// fails is told.
 pub fn show_both(first: Ran, first_room: &[u8; 4096], second: Ran, second_room: &[u8; 4096]) {
     let mut one = io::large_buffer();
     let one_end = lines::report(&mut one, first, first_room);
@@ -49,6 +50,6 @@ pub fn show_both(first: Ran, first_room: &[u8; 4096], second: Ran, second_room: 
     let other_end = lines::report(&mut other, second, second_room);
     print(&other, other_end);
     if !same_text(&one, one_end, &other, other_end) {
-        io::write_all(libc::STDOUT_FILENO, b"the two ways differ\n");
+        program::write(b"the two ways differ\n");
     }
 }

@@ -21,11 +21,14 @@ large-buffer-requires c κs = search needs
 loop-holds : tie.Need-loop-holds Inv-loop μ-loop
 loop-holds c = (search needs, search needs, search needs, search needs, ([], none))
 
-slice-aggregate-read-full : tie.Need-slice-aggregate-read-full Inv-loop μ-loop
-slice-aggregate-read-full c = search needs
+slice-aggregate-read-some : tie.Need-slice-aggregate-read-some Inv-loop μ-loop
+slice-aggregate-read-some c = search needs
 
-read-full-requires : tie.Need-read-full-requires Inv-loop μ-loop
-read-full-requires c κs = search needs
+read-some-requires : tie.Need-read-some-requires Inv-loop μ-loop
+read-some-requires c κs = search needs
+
+returns : tie.Need-returns Inv-loop μ-loop
+returns c = let loop = c .before .before .before .before .before in (sym (loop .loop .inv .3), loop .loop .inv .4)
 
 array-share-prefix-piece : tie.Need-array-share-prefix-piece Inv-loop μ-loop
 array-share-prefix-piece c = search needs
@@ -36,9 +39,6 @@ slice-aggregate-taken c = search needs
 taken-requires : tie.Need-taken-requires Inv-loop μ-loop
 taken-requires c κs = search needs
 
-returns : tie.Need-returns Inv-loop μ-loop
-returns c = (sym (as-long _ _ _ (c .before .before .before .before .before .before .before .before .loop .inv .3) (c .before .taken .ensures .0)), some-more _ _ _ _ (c .before .before .before .before .before .before .before .before .loop .inv .4) (c .before .taken .ensures .0) (c .before .taken .ensures .1))
-
 add-turns : tie.Need-add-turns Inv-loop μ-loop
 add-turns c = search needs
 
@@ -46,7 +46,9 @@ loop-less : tie.Need-loop-less Inv-loop μ-loop
 loop-less c = search needs
 
 loop-again : tie.Need-loop-again Inv-loop μ-loop
-loop-again c = (search needs, search needs, search needs, as-long _ _ _ (c .before .before .before .before .before .before .before .before .loop .inv .3) (c .before .taken .ensures .0), some-more _ _ _ _ (c .before .before .before .before .before .before .before .before .loop .inv .4) (c .before .taken .ensures .0) (c .before .taken .ensures .1))
+loop-again c =
+    let loop = c .before .before .before .before .before .before .before .before in
+    (search needs, search needs, search needs, as-long _ _ _ (loop .loop .inv .3) (c .taken .ensures .0), some-more _ _ _ _ (loop .loop .inv .4) (c .taken .ensures .0) (c .taken .ensures .1))
 
 returns-2 : tie.Need-returns-2 Inv-loop μ-loop
 returns-2 c = (sym (c .before .loop .inv .3), c .before .loop .inv .4)
@@ -59,12 +61,12 @@ whole-spec =
     μ-loop
     large-buffer-requires
     loop-holds
-    slice-aggregate-read-full
-    read-full-requires
+    slice-aggregate-read-some
+    read-some-requires
+    returns
     array-share-prefix-piece
     slice-aggregate-taken
     taken-requires
-    returns
     add-turns
     loop-less
     loop-again

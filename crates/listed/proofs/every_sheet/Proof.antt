@@ -32,6 +32,9 @@ sheet-requires c κs = search needs
 returns : tie.Need-returns Inv-loop μ-loop
 returns c = search needs
 
+returns-2 : tie.Need-returns-2 Inv-loop μ-loop
+returns-2 c = search needs
+
 add-from : tie.Need-add-from Inv-loop μ-loop
 add-from c = search needs
 
@@ -41,8 +44,8 @@ loop-less c = search needs
 loop-again : tie.Need-loop-again Inv-loop μ-loop
 loop-again c = search needs
 
-returns-2 : tie.Need-returns-2 Inv-loop μ-loop
-returns-2 c = search needs
+returns-3 : tie.Need-returns-3 Inv-loop μ-loop
+returns-3 c = search needs
 
 pub every-sheet-spec : {M : Type 1} → statement M
 every-sheet-spec =
@@ -57,7 +60,8 @@ every-sheet-spec =
     part-sheet-end
     sheet-requires
     returns
+    returns-2
     add-from
     loop-less
     loop-again
-    returns-2)
+    returns-3)

@@ -1,0 +1,3 @@
+-- Laws of a program's argument.
+pub mod Arguments
+pub mod Determined
