@@ -1,5 +1,4 @@
 -- Laws of lines and of the homes that they type, which the proofs of the functions cite.
-pub mod Verbs
 pub mod Lines
 pub mod Filling
 pub mod Homes

@@ -5,13 +5,16 @@ use mathlib.Core.Bool.{Bool, true, false, not}
 use mathlib.Core.List.{List}
 use Prim.Native.Nat.{ℕ, _≤_, _<_}
 use native.Mathlib.Omega.{arith}
-use borrow.Author.Tests.{lt-ltb, le-ltb, eq-eqb, ne-eqb}
-use lib.Dec.{eqb}
+use borrow.Author.Tests.{lt-leb, le-leb, lt-ltb, le-ltb, eq-eqb, ne-eqb}
+use lib.Dec.{eqb, leb}
 use Rattle.rules.specs.Commands.{countFits}
 use Rattle.rules.proofs.Tables.{either-left, either-right}
+use Rattle.typed.specs.declared.Verb.{Verb}
+use Rattle.typed.specs.declared.Verb.the-variants.{Open}
 use Rattle.typed.specs.declared.Typed.{Typed}
+use Rattle.typed.specs.Verbs.{is}
 use Rattle.typed.specs.Homes.{numberAt}
-use Rattle.asked.specs.Lines.{countOutside, withHomes, opens, hasAll, isWhole}
+use Rattle.asked.specs.Lines.{least, most, countOutside, withHomes, opens, hasAll, isWhole}
 
 -- ---- the counts of an opening
 -- the number x of a place of the row, and the test f of it
@@ -48,6 +51,16 @@ module _ (row : List ℕ) (count : ℕ) where
   pub opens-other : 3 ≤ count → count ≢ 3 → count ≢ withHomes row → countOutside row ≡ opens row count
   unfolding opens
   opens-other h e f = rw (le-ltb count 3 h, ne-eqb count 3 e, ne-eqb count (withHomes row) f)
+
+-- ---- the words of any other verb
+module _ (v : Verb) (row : List ℕ) (count : ℕ) (other : false ≡ is v Open) (n : ℕ) (from : n ≡ least v) where
+  pub too-few : count < n → false ≡ hasAll v row count
+  unfolding hasAll
+  too-few h = rw (← other, ← from, lt-leb n count h)
+
+  pub not-too-few : n ≤ count → leb count (most v) ≡ hasAll v row count
+  unfolding hasAll
+  not-too-few h = rw (← other, ← from, le-leb n count h)
 
 -- ---- any line
 pub odd-word : (t : Typed) → t .odd ≢ 0 → false ≡ isWhole t

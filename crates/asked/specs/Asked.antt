@@ -9,31 +9,20 @@ use Rattle.rules.specs.declared.Command.{Command}
 use Rattle.rules.specs.declared.Command.the-variants as Do
 use Rattle.rules.specs.declared.Stepped.{Stepped}
 use Rattle.typed.specs.declared.Verb.{Verb}
-use Rattle.typed.specs.declared.Verb.the-variants.{Blank, Open, Request, Release, Deliver, Drain, Show, Waits, Rings, Undo, Help, Quit, Unknown}
+use Rattle.typed.specs.declared.Verb.the-variants.{Request, Release}
 use Rattle.typed.specs.declared.Typed.{Typed}
+use Rattle.typed.specs.Verbs.{is}
 use Rattle.typed.specs.Homes.{numberAt, homes}
 
 -- ---- a command: process, object and mode of a request; process and object of a release; the message number of a delivery
 -- A verb that names no command is as a delivery: such a line asks nothing of the board.
 unfoldable pub commandOf : Verb → ℕ → ℕ → ℕ → Command
-commandOf Request p o m = Do.Request p o m
-commandOf Release p o m = Do.Release p o
-commandOf Deliver n o m = Do.Deliver n
-commandOf Blank n o m = Do.Deliver n
-commandOf Open n o m = Do.Deliver n
-commandOf Drain n o m = Do.Deliver n
-commandOf Show n o m = Do.Deliver n
-commandOf Waits n o m = Do.Deliver n
-commandOf Rings n o m = Do.Deliver n
-commandOf Undo n o m = Do.Deliver n
-commandOf Help n o m = Do.Deliver n
-commandOf Quit n o m = Do.Deliver n
-commandOf Unknown n o m = Do.Deliver n
+commandOf v p o m = pick (is v Request) (Do.Request p o m) (pick (is v Release) (Do.Release p o) (Do.Deliver p))
 
 abbrev pub command : Typed → Command
 command t = commandOf (t .verb) (numberAt (t .numbers) 0) (numberAt (t .numbers) 1) (numberAt (t .numbers) 2)
 
--- ---- a drain; without a budget as many deliveries as a word can name, and no board needs so many
+-- ---- a drain, or a follow; without a budget as many deliveries as a word can name, and no board needs so many
 abbrev pub budget : Typed → ℕ
 budget t = pick (eqb (t .count) 0) 65535 (getD (t .numbers) 0 0)
 

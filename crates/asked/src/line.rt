@@ -7,6 +7,18 @@ use typed::homes::cut;
 use values::bits::wide;
 use values::count::count_fits;
 
+// The least words that a verb takes. A line that names no verb has never enough.
+fn least(verb: Verb) -> usize
+    ensures { λ r. ⌜ r ≡ Lines.least verb ⌝ }
+{
+    match verb {
+        Verb::Request | Verb::Open => 3,
+        Verb::Release => 2,
+        Verb::Deliver | Verb::Blank | Verb::Unknown => 1,
+        _ => 0,
+    }
+}
+
 // The most words that a verb takes.
 pub fn most(verb: Verb) -> usize
     ensures { λ r. ⌜ r ≡ Lines.most verb ⌝ }
@@ -15,8 +27,7 @@ pub fn most(verb: Verb) -> usize
         Verb::Open => 35,
         Verb::Request => 3,
         Verb::Release => 2,
-        Verb::Deliver => 1,
-        Verb::Drain => 1,
+        Verb::Deliver | Verb::Drain | Verb::Follow | Verb::Show | Verb::Messages | Verb::Waits => 1,
         _ => 0,
     }
 }
@@ -63,13 +74,13 @@ fn has_all(t: Typed) -> bool
 {
     let verb = t.verb;
     let row = t.numbers;
-    match verb {
-        Verb::Blank => false,
-        Verb::Unknown => false,
-        Verb::Open => opens(row, t.count),
-        Verb::Drain => t.count <= 1,
-        _ => t.count == most(verb),
+    if let Verb::Open = verb {
+        return opens(row, t.count);
     }
+    if t.count < least(verb) {
+        return false;
+    }
+    t.count <= most(verb)
 }
 
 // Each word is understood, and they are as many as the verb takes.

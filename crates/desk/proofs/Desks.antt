@@ -2,14 +2,11 @@
 use mathlib.Core.Path.{_≡_, refl, sym, ap, _∙_}
 use mathlib.Core.Logic.{_≢_}
 use mathlib.Core.Bool.{true, false, not}
-use mathlib.Core.List.{List, [], _∷_}
-use Prim.{tt}
+use mathlib.Core.List.{[]}
 use Prim.Native.Nat.{ℕ, _+_}
 use native.Mathlib.Numerals.{add-one}
 use borrow.Author.Tests.{eq-eqb, ne-eqb}
 use lib.Dec.{eqb}
-use types.Run.{OneOf, miss}
-use denote.Enum.Declared.{tagOf}
 use Rattle.rules.specs.declared.Board.{Board}
 use Rattle.rules.specs.declared.Command.{Command}
 use Rattle.rules.specs.declared.Stepped.{Stepped}
@@ -18,18 +15,15 @@ use Rattle.rules.specs.Answers.{number}
 use Rattle.rules.specs.Bits.{lowestTaken}
 use Rattle.rules.specs.Commands.{zeroBoard}
 use Rattle.rules.specs.Shape as Rules
-use Rattle.typed.specs.declared.Verb.{Verb}
-use Rattle.typed.specs.declared.Verb.the-variants.{Blank, Open, Request, Release, Deliver, Drain, Show, Waits, Rings, Undo, Help, Quit, Unknown}
 use Rattle.typed.specs.declared.Typed.{Typed}
 use Rattle.typed.specs.Reading.{reading}
-use Rattle.typed.proofs.Verb.{the-type}
 use Rattle.desk.specs.declared.senders.Site.{Site}
 use Rattle.desk.specs.declared.Desk.{Desk}
 use Rattle.desk.specs.declared.Acted.{Acted}
 use Rattle.asked.specs.Lines.{isWhole}
 use Rattle.asked.specs.Asked as Asked
 use Rattle.desk.specs.Senders as Senders
-use Rattle.desk.specs.Desks.{cleared, closed, moved, told, stay, openedBy, opened, steppedBy, stepped, drainedOnce, drainedTimes, drainedBy, drained, followed, acted}
+use Rattle.desk.specs.Desks.{cleared, closed, moved, told, stay, openedBy, opened, steppedBy, stepped, drainedOnce, drainedTimes, drainedBy, drained, byVerb, acted}
 
 pub closed-is : (b : Board) (t : Typed) → b ≡ zeroBoard → t ≡ reading [] → cleared b t ≡ closed
 closed-is b t e f = ap (λ (y : Board). cleared y t) e ∙ ap (cleared zeroBoard) f
@@ -97,55 +91,8 @@ module _ (d : Desk) (t : Typed) where
       ∙ ap (λ (y : Desk). told y (r .answer) (r .made) 64 (not (eqb (r .made) 0))) g
       ∙ ap (λ (y : Drained). drainedBy y d t) (f ∙ ap (Rules.drain (d .board)) e)
 
-  -- ---- by the verb
-  pub follow-open : (v : Verb) → v ≡ Open → opened d t ≡ followed v d t
-  unfolding followed
-  follow-open v e = rw e
-
-  pub follow-drain : (v : Verb) → v ≡ Drain → drained d t ≡ followed v d t
-  unfolding followed
-  follow-drain v e = rw e
-
-  abbrev commands : List ℕ
-  commands = 2 ∷ 3 ∷ 4 ∷ []
-
-  pub follow-command : (v : Verb) → OneOf commands (tagOf the-type v) → stepped d t ≡ followed v d t
-  unfolding followed
-  follow-command Blank h = absurd (miss commands 0 tt h)
-  follow-command Open h = absurd (miss commands 1 tt h)
-  follow-command Request h = refl
-  follow-command Release h = refl
-  follow-command Deliver h = refl
-  follow-command Drain h = absurd (miss commands 5 tt h)
-  follow-command Show h = absurd (miss commands 6 tt h)
-  follow-command Waits h = absurd (miss commands 7 tt h)
-  follow-command Rings h = absurd (miss commands 8 tt h)
-  follow-command Undo h = absurd (miss commands 9 tt h)
-  follow-command Help h = absurd (miss commands 10 tt h)
-  follow-command Quit h = absurd (miss commands 11 tt h)
-  follow-command Unknown h = absurd (miss commands 12 tt h)
-
-  abbrev idle : List ℕ
-  idle = 0 ∷ 6 ∷ 7 ∷ 8 ∷ 10 ∷ 12 ∷ []
-
-  pub follow-none : (v : Verb) → OneOf idle (tagOf the-type v) → stay d ≡ followed v d t
-  unfolding followed
-  follow-none Blank h = refl
-  follow-none Open h = absurd (miss idle 1 tt h)
-  follow-none Request h = absurd (miss idle 2 tt h)
-  follow-none Release h = absurd (miss idle 3 tt h)
-  follow-none Deliver h = absurd (miss idle 4 tt h)
-  follow-none Drain h = absurd (miss idle 5 tt h)
-  follow-none Show h = refl
-  follow-none Waits h = refl
-  follow-none Rings h = refl
-  follow-none Undo h = absurd (miss idle 9 tt h)
-  follow-none Help h = refl
-  follow-none Quit h = absurd (miss idle 11 tt h)
-  follow-none Unknown h = refl
-
   -- ---- whole, or not
-  pub act-whole : isWhole t ≡ true → followed (t .verb) d t ≡ acted d t
+  pub act-whole : isWhole t ≡ true → byVerb (t .verb) d t ≡ acted d t
   unfolding acted
   act-whole e = rw e
 

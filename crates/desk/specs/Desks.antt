@@ -9,14 +9,15 @@ use Rattle.rules.specs.declared.Answer.the-variants.{Done}
 use Rattle.rules.specs.declared.Board.{Board}
 use Rattle.rules.specs.declared.Stepped.{Stepped}
 use Rattle.rules.specs.declared.Drained.{Drained}
-use Rattle.rules.specs.Tables.{pick}
+use Rattle.rules.specs.Tables.{pick, either}
 use Rattle.rules.specs.Bits.{lowestTaken}
 use Rattle.rules.specs.Answers.{done}
 use Rattle.rules.specs.Commands.{zeroBoard}
 use Rattle.rules.specs.Shape as Rules
 use Rattle.typed.specs.declared.Verb.{Verb}
-use Rattle.typed.specs.declared.Verb.the-variants.{Blank, Open, Request, Release, Deliver, Drain, Show, Waits, Rings, Undo, Help, Quit, Unknown}
+use Rattle.typed.specs.declared.Verb.the-variants.{Open, Request, Release, Deliver, Drain, Follow, Undo, Quit}
 use Rattle.typed.specs.declared.Typed.{Typed}
+use Rattle.typed.specs.Verbs.{is}
 use Rattle.typed.specs.Reading.{reading}
 use Rattle.desk.specs.declared.senders.Site.{Site}
 use Rattle.desk.specs.declared.Desk.{Desk}
@@ -77,22 +78,14 @@ drainedBy r d t = told (drainedTimes (r .made) d t) (r .answer) (r .made) 64 (no
 unfoldable pub drained : Desk → Typed → Acted
 drained d t = drainedBy (Rules.drain (d .board) (Asked.budget t)) d t
 
--- ---- by the verb
-unfoldable pub followed : Verb → Desk → Typed → Acted
-followed Blank d t = stay d
-followed Open d t = opened d t
-followed Request d t = stepped d t
-followed Release d t = stepped d t
-followed Deliver d t = stepped d t
-followed Drain d t = drained d t
-followed Show d t = stay d
-followed Waits d t = stay d
-followed Rings d t = stay d
-followed Undo d t = silent d true false
-followed Help d t = stay d
-followed Quit d t = silent d false true
-followed Unknown d t = stay d
+-- ---- by the verb; a follow is a drain, and a verb that is not named here leaves the desk as it was
+unfoldable pub byVerb : Verb → Desk → Typed → Acted
+byVerb v d t =
+    pick (is v Open) (opened d t)
+    (pick (either (is v Request) (either (is v Release) (is v Deliver))) (stepped d t)
+    (pick (either (is v Drain) (is v Follow)) (drained d t)
+    (silent d (is v Undo) (is v Quit))))
 
 -- a line that is no whole command does nothing
 unfoldable pub acted : Desk → Typed → Acted
-acted d t = pick (isWhole t) (followed (t .verb) d t) (stay d)
+acted d t = pick (isWhole t) (byVerb (t .verb) d t) (stay d)

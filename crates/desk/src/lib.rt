@@ -146,7 +146,7 @@ fn drained(start: Desk, made: usize, command: Typed) -> Desk
     desk
 }
 
-// A drain: as many deliveries as the board makes of it.
+// A drain, or a follow, which is a drain that is told delivery by delivery: as many deliveries as the board makes of it.
 fn drain(desk: Desk, t: Typed) -> Acted
     ensures { λ r. ⌜ r ≡ Desks.drained desk t ⌝ }
 {
@@ -157,14 +157,14 @@ fn drain(desk: Desk, t: Typed) -> Acted
 }
 
 // What a verb and its numbers do.
-fn follow(desk: Desk, t: Typed) -> Acted
-    ensures { λ r. ⌜ r ≡ Desks.followed (t .verb) desk t ⌝ }
+fn by_verb(desk: Desk, t: Typed) -> Acted
+    ensures { λ r. ⌜ r ≡ Desks.byVerb (t .verb) desk t ⌝ }
 {
     let verb = t.verb;
     match verb {
         Verb::Open => open(desk, t),
         Verb::Request | Verb::Release | Verb::Deliver => step(desk, t),
-        Verb::Drain => drain(desk, t),
+        Verb::Drain | Verb::Follow => drain(desk, t),
         Verb::Undo => silent(desk, true, false),
         Verb::Quit => silent(desk, false, true),
         _ => silent(desk, false, false),
@@ -176,7 +176,7 @@ pub fn act(desk: Desk, t: Typed) -> Acted
     ensures { λ r. ⌜ r ≡ Desks.acted desk t ⌝ }
 {
     if asked::line::is_whole(t) {
-        return follow(desk, t);
+        return by_verb(desk, t);
     }
     silent(desk, false, false)
 }

@@ -1,81 +1,45 @@
-// A board stepped at a terminal: each line of standard input is answered at once, until the input ends or says quit.
-mod fault;
-mod lines;
-mod message;
-mod put;
-mod say;
-mod show;
-mod told;
-mod undone;
-mod waits;
-
-ghost use mathlib.Core.Path.{_≡_};
-ghost use Rattle.typed.specs.Reading.{reading};
-ghost use Rattle.desk.specs.Desks.{acted};
-ghost use Rattle.hand.specs.Heard.{heard};
-use desk::Acted;
-use desk::Desk;
+// A board stepped at a terminal: each line of the input is answered at once, until the input ends or says quit.
 use lines::Feed;
-use put::text_if;
-use typed::Typed;
+use lines::Line;
+use program::Source;
+use program::write;
 use undo::Kept;
 
-// What a line does to the desk is said, or what is wrong with it.
-fn understood(desk: Desk, t: Typed) -> Acted
-    ensures { λ r. ⌜ r ≡ acted desk t ⌝ }
-{
-    let acted = desk::act(desk, t);
-    if asked::line::is_whole(t) {
-        told::tell(desk, t, acted);
-        return acted;
+fn say_if(typing: bool, s: &[u8]) -> bool {
+    if typing {
+        return write(s);
     }
-    fault::refuse(t);
-    acted
+    true
 }
 
-// What a line does to the desk. A line longer than the room is not understood: it does as much as an empty one.
-fn answered(desk: Desk, room: &[u8], count: usize) -> Acted
-    ensures { λ r. ⌜ r ≡ acted desk (reading (heard (now (room .entry)) count)) ⌝ }
-{
-    if count <= room.len() {
-        return understood(desk, typed::read(&room[..count]));
-    }
-    say::too_long();
-    desk::act(desk, typed::read(b""))
-}
-
-fn greet(typing: bool) {
-    text_if(
+fn greet(typing: bool) -> bool {
+    say_if(
         typing,
         b"A board to step by hand. help shows the commands; open 3 3 2 opens a board.\n",
-    );
+    )
 }
 
-// What is left of a line: what it did, and where the input is read on.
-pub struct Turned {
-    pub acted: Acted,
-    pub feed: Feed,
-}
-
-// The next line is read and answered. At a terminal it is asked for, and the end of the input ends the line. That end is as a typed quit.
-fn turn(typing: bool, desk: Desk, piece: &mut [u8], room: &mut [u8], start: Feed) -> Turned {
-    text_if(typing, b"> ");
-    let line = lines::next_line(piece, room, start);
-    let feed = line.feed;
+// The next line. At a terminal it is asked for, and the end of the input ends the line that was asked for.
+fn asked(
+    typing: bool,
+    fd: i32,
+    piece: &mut [u8; 4096],
+    room: &mut [u8; 1000],
+    start: Feed,
+) -> Line {
+    if !say_if(typing, b"> ") {
+        return lines::no_line(start);
+    }
+    let line = lines::next_line(fd, piece, room, start);
     if lines::is_over(line) {
-        text_if(typing, b"\n");
-        return Turned {
-            acted: desk::act(desk, typed::read(b"quit")),
-            feed,
-        };
+        say_if(typing, b"\n");
     }
-    Turned {
-        acted: answered(desk, room, line.count),
-        feed,
-    }
+    line
 }
 
-fn main() {
+// Each line is read, answered and done, and its desk put in its place; whether a read failed. A write that fails ends the session.
+fn each_line(fd: i32, typing: bool) -> bool {
+    let mut out = io::large_buffer();
     let mut piece = io::buffer();
     let mut room = [0u8; 1000];
     let mut feed = Feed { at: 0, end: 0 };
@@ -86,23 +50,59 @@ fn main() {
         dropped: false,
     };
     let mut turns: usize = 18446744073709551615;
-    let typing = libc::isatty(0) == 1;
-    greet(typing);
     while 0 < turns {
         turns -= 1;
-        let top = undo::place(kept);
-        let turned = turn(typing, past[top], &mut piece, &mut room, feed);
-        feed = turned.feed;
-        let acted = turned.acted;
-        if acted.ended {
-            return;
+        let line = asked(typing, fd, &mut piece, &mut room, feed);
+        if lines::is_over(line) {
+            return line.failed;
         }
+        feed = line.feed;
+        let top = undo::place(kept);
+        let desk = past[top];
+        let acted = session::answered(desk, &room, line.count);
         kept = undo::one_more(kept, acted.changed);
         let next = undo::place(kept);
-        let desk = acted.desk;
-        past[next] = desk;
-        let command = desk.command;
-        undone::tell(acted.undo, kept, command);
+        let after = acted.desk;
+        past[next] = after;
+        let written = session::said(&mut out, typing, &room, line.count, desk, acted, kept);
+        if acted.ended | !written {
+            return false;
+        }
         kept = undo::one_less(kept, acted.undo);
+    }
+    false
+}
+
+// What is read, by the argument; the text is what --help prints.
+fn started(name: &mut [u8; 4096]) -> Source {
+    program::start(
+        b"hand steps a board by commands, one to a line, and says what each node can
+know and what only the whole board shows.
+
+  ./hand            at a terminal: each line is answered as it is typed
+  ./hand FILE       the commands in the file, printed with their answers
+  ./hand < FILE     the same from standard input, as ./hand - does
+  ./hand --help     prints this, as ./hand -h does
+
+The command help lists the commands. open 3 3 2 opens a board of three nodes,
+three processes and two objects. exercises/lesson.md is a lesson to type.
+The exit status of ./hand is 0, or 1 where something could not be read or
+written.
+",
+        name,
+    )
+}
+
+fn main() {
+    let mut name = io::buffer();
+    let Source::Reads { fd, named } = started(&mut name) else {
+        return;
+    };
+    let typing = libc::isatty(fd) == 1;
+    if !greet(typing) {
+        return;
+    }
+    if each_line(fd, typing) {
+        program::read_failed(&name, named);
     }
 }

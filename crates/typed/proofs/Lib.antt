@@ -1,4 +1,5 @@
 -- Laws of words, names and numbers, which the proofs of the functions cite.
+pub mod Verbs
 pub mod Runs
 pub mod Naming
 pub mod Decimals

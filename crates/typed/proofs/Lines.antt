@@ -11,7 +11,7 @@ use Rattle.typed.specs.Words.{words}
 use Rattle.typed.specs.Spans.{part, NextWord}
 use Rattle.typed.specs.Names.{verbOf}
 use Rattle.typed.specs.Numbers.{meaning}
-use Rattle.typed.specs.Reading.{begun, withMeaning, withWords, ofWords, reading}
+use Rattle.typed.specs.Reading.{begun, withMeaning, withWords, ofWords}
 
 module _ (s : List ℕ) (at : ℕ) (n : Span) (next : NextWord s at n) where
   pub no-more : (t : Typed) → length s ≤ n .start → withWords t (words (drop at s)) ≡ t
@@ -30,10 +30,8 @@ module _ (s : List ℕ) (at : ℕ) (n : Span) (next : NextWord s at n) where
       ap (λ (x : Typed). withWords x (words (drop (n .end) s))) (f ∙ ap (λ (x : Meaning). withMeaning x t) e) ∙ sym (one-more t h) ∙ g
 
 module _ (s : List ℕ) (n : Span) (next : NextWord s 0 n) where
-  pub no-word : length s ≤ n .start → reading s ≡ begun Blank
-  unfolding reading
+  pub no-word : length s ≤ n .start → ofWords (words s) ≡ begun Blank
   no-word h = ap ofWords (next .none h)
 
-  pub first-word : n .start < length s → reading s ≡ withWords (begun (verbOf (part s (n .start) (n .end)))) (words (drop (n .end) s))
-  unfolding reading
+  pub first-word : n .start < length s → ofWords (words s) ≡ withWords (begun (verbOf (part s (n .start) (n .end)))) (words (drop (n .end) s))
   first-word h = ap ofWords (next .first h)

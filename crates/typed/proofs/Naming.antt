@@ -69,8 +69,8 @@ module _ (w s : List ℕ) (at : ℕ) (n : Span) (next : NextWord s at n) where
   later h e = ap (placeIn w) (next .first h) ∙ place-later w _ _ e
 
 -- ---- the verbs in the order of their names
-pub verb-there : (n : ℕ) (d : Verb) → n < 11 → getD verbs n d ≡ verbAt n
+pub verb-there : (n : ℕ) (d : Verb) → n < 15 → getD verbs n d ≡ verbAt n
 verb-there n d h = getD-any verbs n d Unknown h
 
-pub verb-past : (n : ℕ) → 11 ≤ n → verbAt n ≡ Unknown
+pub verb-past : (n : ℕ) → 15 ≤ n → verbAt n ≡ Unknown
 verb-past n h = List·getD-eq-default verbs Unknown h

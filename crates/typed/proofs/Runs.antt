@@ -1,15 +1,19 @@
--- Laws of the words of a line: a run ends where its bytes do, and the words of a line are its first word and the words after it.
+-- Laws of the words of a line: a run ends where its bytes do, and the words of a line are its first word and the words after it; and of the
+-- place of its comment.
 -- Each is an induction on the line. Assumes nothing.
 use mathlib.Core.Path.{_≡_, refl, sym, ap, _∙_}
 use mathlib.Core.Bool.{Bool, true, false, not}
 use mathlib.Core.List.{List, [], _∷_}
 use Prim.Native.Nat.{ℕ, suc, _+_, _-_, _≤_, _<_}
+use mathlib.Core.Logic.{_≢_}
 use native.Mathlib.Numerals.{add-one}
 use native.Mathlib.Omega.{arith}
 use lib.ListN.{length, getD, drop, length-drop, drop-of-length-le}
 use lib.Seq.{drop-cons, drop-drop}
+use lib.Dec.{eqb}
+use borrow.Author.Tests.{eq-eqb, ne-eqb}
 use Rattle.rules.proofs.Tables.{by-test}
-use Rattle.typed.specs.Words.{blank, ofSort, run, wordAt, wordsFrom, words}
+use Rattle.typed.specs.Words.{commentAt, blank, ofSort, run, wordAt, wordsFrom, words}
 use Rattle.typed.specs.Spans.{NextWord}
 
 -- ---- one byte
@@ -118,3 +122,21 @@ next-word s at a e h p q =
       first = λ l. words-skip (drop at s) ∙ ap words there ∙ words-first (drop a s) (starts l) ∙ rw (behind, wide);
       none = λ l. words-none (drop at s) (omega arith);
     }
+
+-- ---- the comment
+pub comment-here : (s : List ℕ) (at : ℕ) → at < length s → getD s at 0 ≡ 35 → commentAt (drop at s) ≡ 0
+unfolding commentAt
+comment-here s at h e = rw (drop-cons s at 0 h, commentAt, eq-eqb (getD s at 0) 35 e)
+
+pub comment-later : (s : List ℕ) (at : ℕ) → at < length s → getD s at 0 ≢ 35 → commentAt (drop at s) ≡ suc (commentAt (drop (at + 1) s))
+unfolding commentAt
+comment-later s at h e = rw (add-one, drop-cons s at 0 h, commentAt, ne-eqb (getD s at 0) 35 e)
+
+pub comment-none : (s : List ℕ) (at : ℕ) → length s ≤ at → commentAt (drop at s) ≡ 0
+unfolding commentAt
+comment-none s at h = rw (drop-of-length-le s h)
+
+pub comment-le : (s : List ℕ) → commentAt s ≤ length s
+unfolding commentAt
+comment-le [] = omega arith
+comment-le (c ∷ s) = by-test (eqb c 35) (λ e. rw (commentAt, e) (omega arith)) (λ e. rw (commentAt, e) (omega (arith, comment-le s)))

@@ -1,4 +1,5 @@
 -- What a typed line says, as definitions: its words, the names that they may be, and the numbers.
+pub mod Verbs
 pub mod Words
 pub mod Names
 pub mod Numbers

@@ -7,7 +7,7 @@ use lib.ListN.{getD}
 use Rattle.rules.specs.Tables.{pick}
 pub use Rattle.text.specs.Text.{bytes}
 use Rattle.typed.specs.declared.Verb.{Verb}
-use Rattle.typed.specs.declared.Verb.the-variants.{Open, Request, Release, Deliver, Drain, Show, Waits, Rings, Undo, Help, Quit, Unknown}
+use Rattle.typed.specs.declared.Verb.the-variants.{Open, Request, Release, Deliver, Drain, Follow, Show, Messages, Waits, Rings, Undo, Help, Quit, Unknown}
 use Rattle.typed.specs.Words.{words}
 
 -- the letter in lower case; any other byte as it is
@@ -26,12 +26,13 @@ unfoldable pub placeIn : List ℕ → List (List ℕ) → ℕ
 placeIn w [] = 0
 placeIn w (n ∷ ns) = elim (alike w n) [ true ↦ 0 | false ↦ suc (placeIn w ns) ]
 
--- ---- the verbs
+-- ---- the verbs; help and quit have two pairs of names
 abbrev pub verbNames : List ℕ
-verbNames = bytes "open o request r release re deliver d drain dr show s waits w rings ri undo u help h quit q"
+verbNames =
+    bytes "open o request r release re deliver d drain dr follow f show s messages m waits w rings ri undo u help h ? ? quit q exit e"
 
 abbrev pub verbs : List Verb
-verbs = Open ∷ Request ∷ Release ∷ Deliver ∷ Drain ∷ Show ∷ Waits ∷ Rings ∷ Undo ∷ Help ∷ Quit ∷ []
+verbs = Open ∷ Request ∷ Release ∷ Deliver ∷ Drain ∷ Follow ∷ Show ∷ Messages ∷ Waits ∷ Rings ∷ Undo ∷ Help ∷ Help ∷ Quit ∷ Quit ∷ []
 
 abbrev pub verbAt : ℕ → Verb
 verbAt n = getD verbs n Unknown

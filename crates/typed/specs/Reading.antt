@@ -1,4 +1,4 @@
--- What a line says: the verb that its first word names, and the numbers that the later words stand for.
+-- What a line says before its comment: the verb that its first word names, and the numbers that the later words stand for.
 use Prim.Native.Nat.{ℕ, _+_}
 use mathlib.Core.List.{List, [], _∷_}
 use lib.Dec.{eqb}
@@ -9,7 +9,7 @@ use Rattle.typed.specs.declared.Verb.the-variants.{Blank}
 use Rattle.typed.specs.declared.Meaning.{Meaning}
 use Rattle.typed.specs.declared.Meaning.the-variants.{Number, Odd}
 use Rattle.typed.specs.declared.Typed.{Typed}
-use Rattle.typed.specs.Words.{words}
+use Rattle.typed.specs.Words.{uncommented, words}
 use Rattle.typed.specs.Names.{verbOf}
 use Rattle.typed.specs.Numbers.{meaning}
 
@@ -38,4 +38,4 @@ ofWords [] = begun Blank
 ofWords (w ∷ ws) = withWords (begun (verbOf w)) ws
 
 unfoldable pub reading : List ℕ → Typed
-reading line = ofWords (words line)
+reading line = ofWords (words (uncommented line))

@@ -1,4 +1,4 @@
--- The words of a line: runs of bytes other than blanks.
+-- What is read of a line, which is all before its comment; and the words of a line: runs of bytes other than blanks.
 use Prim.Native.Nat.{ℕ, suc}
 use mathlib.Core.Bool.{Bool, true, false, not}
 use mathlib.Core.List.{List, [], _∷_}
@@ -6,6 +6,17 @@ use lib.Dec.{eqb}
 use lib.ListN.{take}
 use Rattle.rules.specs.Tables.{pick, either}
 
+-- ---- a comment
+-- the place of the first # of a line; the line's end where there is none
+unfoldable pub commentAt : List ℕ → ℕ
+commentAt [] = 0
+commentAt (c ∷ s) = elim (eqb c 35) [ true ↦ 0 | false ↦ suc (commentAt s) ]
+
+-- from the first # of a line to its end nothing is read
+abbrev pub uncommented : List ℕ → List ℕ
+uncommented line = take (commentAt line) line
+
+-- ---- words
 -- a blank: a space, a tab or a carriage return
 unfoldable pub blank : ℕ → Bool
 blank c = either (eqb c 32) (either (eqb c 9) (eqb c 13))

@@ -19,7 +19,9 @@ pub enum Verb {
     Release,
     Deliver,
     Drain,
+    Follow,
     Show,
+    Messages,
     Waits,
     Rings,
     Undo,
@@ -142,9 +144,9 @@ fn arguments(line: &[u8], from: usize, begun: Typed) -> Typed
     }
 }
 
-// What a line says: the verb that its first word names, and the numbers that the later words stand for.
-pub fn read(line: &[u8]) -> Typed
-    ensures { λ r. ⌜ r ≡ Reading.reading (now (line .entry)) ⌝ }
+// What the words of a line say: the verb that the first of them names, and the numbers that the later ones stand for.
+fn of_words(line: &[u8]) -> Typed
+    ensures { λ r. ⌜ r ≡ Reading.ofWords (Words.words (now (line .entry))) ⌝ }
 {
     let first = words::next_word(line, 0);
     let start = first.start;
@@ -153,4 +155,11 @@ pub fn read(line: &[u8]) -> Typed
         return begun(Verb::Blank);
     }
     arguments(line, end, begun(names::verb_of(&line[start..end])))
+}
+
+// What a line says, whose comment is not read.
+pub fn read(line: &[u8]) -> Typed
+    ensures { λ r. ⌜ r ≡ Reading.reading (now (line .entry)) ⌝ }
+{
+    of_words(&line[0..words::comment_at(line)])
 }

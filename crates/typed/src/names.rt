@@ -5,7 +5,7 @@ ghost use Rattle.typed.specs.Words as Words;
 use crate::Verb;
 
 // The letter in lower case; any other byte as it is.
-fn lower(c: u8) -> u8
+pub fn lower(c: u8) -> u8
     ensures { λ r. ⌜ r ≡ Names.lower c ⌝ }
 {
     if c < b'A' {
@@ -55,7 +55,7 @@ pub fn place_in(word: &[u8], table: &[u8]) -> usize
     }
 }
 
-// The verbs in the order of their names.
+// The verbs in the order of their names. Help and quit have two pairs of names.
 fn verb_at(n: usize) -> Verb
     ensures { λ r. ⌜ r ≡ Names.verbAt n ⌝ }
 {
@@ -65,14 +65,18 @@ fn verb_at(n: usize) -> Verb
         Verb::Release,
         Verb::Deliver,
         Verb::Drain,
+        Verb::Follow,
         Verb::Show,
+        Verb::Messages,
         Verb::Waits,
         Verb::Rings,
         Verb::Undo,
         Verb::Help,
+        Verb::Help,
+        Verb::Quit,
         Verb::Quit,
     ];
-    if n < 11 {
+    if n < 15 {
         return verbs[n];
     }
     Verb::Unknown
@@ -85,7 +89,7 @@ pub fn verb_of(word: &[u8]) -> Verb
     verb_at(
         place_in(
             word,
-            b"open o request r release re deliver d drain dr show s waits w rings ri undo u help h quit q",
+            b"open o request r release re deliver d drain dr follow f show s messages m waits w rings ri undo u help h ? ? quit q exit e",
         )
             / 2,
     )

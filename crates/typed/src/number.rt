@@ -1,6 +1,7 @@
 // What a word after the verb stands for.
 ghost use mathlib.Core.Path.{_≡_};
 ghost use Prim.Native.Nat.{_+_, _-_, _*_, _≤_, min};
+ghost use lib.ListN.{drop};
 ghost use Rattle.typed.specs.Numbers as Numbers;
 use crate::Meaning;
 use crate::Verb;
@@ -23,12 +24,15 @@ fn with_digit(n: u32, c: u8) -> u32
     65535
 }
 
-// A decimal number: digits alone.
-fn decimal(word: &[u8]) -> Meaning
-    ensures { λ r. ⌜ r ≡ Numbers.decimalFrom 0 (now (word .entry)) ⌝ }
+// A decimal number, from a place of the word on: digits alone, one or more.
+fn decimal(word: &[u8], from: usize) -> Meaning
+    ensures { λ r. ⌜ r ≡ Numbers.decimal (drop from (now (word .entry))) ⌝ }
 {
+    if word.len() <= from {
+        return Meaning::Odd;
+    }
     let mut n: u32 = 0;
-    let mut i = 0;
+    let mut i = from;
     while i < word.len() {
         let c = word[i];
         if c < b'0' {
@@ -51,7 +55,44 @@ fn mode(word: &[u8]) -> Meaning
     if place < 4 {
         return Meaning::Number((place / 2) as u16);
     }
-    decimal(word)
+    decimal(word, 0)
+}
+
+// The letters of a process and an object, which stand behind no word and behind one.
+fn letter_at(before: usize) -> u8
+    ensures { λ r. ⌜ r ≡ Numbers.letterAt before ⌝ }
+{
+    if before == 0 {
+        return b'p';
+    }
+    if before == 1 {
+        return b'o';
+    }
+    b' '
+}
+
+// The letter that may stand before a number of a verb, with so many words before it: p before a process, o before an object.
+// Else a blank, which is in no word.
+fn letter(verb: Verb, before: usize) -> u8
+    ensures { λ r. ⌜ r ≡ Numbers.letter verb before ⌝ }
+{
+    match verb {
+        Verb::Request | Verb::Release => letter_at(before),
+        _ => b' ',
+    }
+}
+
+// Where the digits of a word begin: behind the letter, where it has that one.
+fn digits_at(letter: u8, word: &[u8]) -> usize
+    ensures { λ r. ⌜ drop r (now (word .entry)) ≡ Numbers.digits letter (now (word .entry)) ⌝ }
+{
+    if word.len() == 0 {
+        return 0;
+    }
+    if crate::names::lower(word[0]) == letter {
+        return 1;
+    }
+    0
 }
 
 // What a word of a verb stands for, with so many words before it.
@@ -61,5 +102,5 @@ pub fn meaning(verb: Verb, before: usize, word: &[u8]) -> Meaning
     if crate::asks_mode(verb, before) {
         return mode(word);
     }
-    decimal(word)
+    decimal(word, digits_at(letter(verb, before), word))
 }

@@ -1,4 +1,4 @@
-// The words of a line, found one after another.
+// Where a line's comment begins, and the words of a line, found one after another.
 ghost use mathlib.Core.Path.{_≡_};
 ghost use Prim.Native.Nat.{_+_, _≤_};
 ghost use lib.ListN.{length, drop};
@@ -9,6 +9,20 @@ ghost use Rattle.typed.specs.Spans.{NextWord};
 pub struct Span {
     pub start: usize,
     pub end: usize,
+}
+
+// The place of the first `#` of a line, which begins a comment; the line's end where there is none.
+pub fn comment_at(line: &[u8]) -> usize
+    ensures { λ r. ⌜ r ≡ Words.commentAt (now (line .entry)) ⌝ }
+{
+    let mut i = 0;
+    while i < line.len() {
+        if line[i] == b'#' {
+            return i;
+        }
+        i += 1;
+    }
+    i
 }
 
 // A blank parts words: a space, a tab or a carriage return.

@@ -1,59 +1,43 @@
--- `typed::read` meets its contract: the first word names the verb, and `arguments` takes the others. Assumes nothing.
-use mathlib.Core.Path.{sym, ap, _∙_}
+-- `typed::read` meets its contract: what the words before the comment say. Assumes nothing.
+use mathlib.Core.Path.{_≡_, ap, _∙_}
+use Prim.Native.Nat.{ℕ, _-_}
 use native.Mathlib.Omega.{arith}
-use lib.ListN.{drop}
+use lib.ListN.{take}
 use borrow.Author.Needs.{needs}
-use Rattle.typed.proofs.Lines.{no-word, first-word}
-use Rattle.typed.specs.Reading.{begun, withWords}
-use Rattle.typed.specs.Words.{words}
-use Rattle.typed.specs.declared.Typed.{Typed}
+use Rattle.typed.specs.Reading.{ofWords, reading}
+use Rattle.typed.specs.Words.{commentAt, words}
+use Rattle.typed.proofs.Runs.{comment-le}
 use Rattle.typed.proofs.read.Statement.{statement}
 use Rattle.typed.proofs.read.Tie as tie
 
-next-word-requires : tie.Need-next-word-requires
-next-word-requires c κs = search needs
+comment-at-requires : tie.Need-comment-at-requires
+comment-at-requires c κs = search needs
 
-begun-requires : tie.Need-begun-requires
-begun-requires c κs = search needs
+sub-of-words : tie.Need-sub-of-words
+sub-of-words c = search needs
+
+part-of-words-start : tie.Need-part-of-words-start
+part-of-words-start c = search needs
+
+part-of-words-end : tie.Need-part-of-words-end
+part-of-words-end c = omega (arith, c .comment-at .ensures, comment-le (c .before .before .args .line .now))
+
+of-words-requires : tie.Need-of-words-requires
+of-words-requires c κs = search needs
 
 returns : tie.Need-returns
-returns c = let n = c .before .before .next-word in c .begun .ensures ∙ sym (no-word _ _ (n .ensures) (c .before .if1 .taken))
-
-sub-verb-of : tie.Need-sub-verb-of
-sub-verb-of c = search needs
-
-part-verb-of-start : tie.Need-part-verb-of-start
-part-verb-of-start c = search needs
-
-part-verb-of-end : tie.Need-part-verb-of-end
-part-verb-of-end c = search needs
-
-verb-of-requires : tie.Need-verb-of-requires
-verb-of-requires c κs = search needs
-
-begun-requires-2 : tie.Need-begun-requires-2
-begun-requires-2 c κs = search needs
-
-arguments-requires : tie.Need-arguments-requires
-arguments-requires c κs = (c .before .before .before .before .next-word .ensures .inside, omega (arith, ap (λ (t : Typed). t .count) (c .begun2 .ensures)))
-
-returns-2 : tie.Need-returns-2
-returns-2 c = let n = c .before .before .before .before .before .next-word in let line = c .before .before .before .before .before .before .before .args .line .now in
-    c .arguments .ensures
-    ∙ ap (λ (t : Typed). withWords t (words (drop (n .result .end) line))) (c .before .begun2 .ensures ∙ ap begun (c .before .before .verb-of .ensures))
-    ∙ sym (first-word line (n .result) (n .ensures) (c .before .before .before .before .if1 .left))
+unfolding reading
+returns c = let k = c .before .before .comment-at in let s = c .before .before .before .before .args .line .now in
+    let e : k .result - 0 ≡ commentAt s = omega (arith, k .ensures) in
+    c .of-words .ensures ∙ ap (λ (n : ℕ). ofWords (words (take n s))) e
 
 pub read-spec : {M : Type 1} → statement M
 read-spec =
     tie.close
     (tie.spec
-    next-word-requires
-    begun-requires
-    returns
-    sub-verb-of
-    part-verb-of-start
-    part-verb-of-end
-    verb-of-requires
-    begun-requires-2
-    arguments-requires
-    returns-2)
+    comment-at-requires
+    sub-of-words
+    part-of-words-start
+    part-of-words-end
+    of-words-requires
+    returns)

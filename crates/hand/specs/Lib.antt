@@ -1,2 +1,0 @@
--- What the program hears of a typed line.
-pub mod Heard

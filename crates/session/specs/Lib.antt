@@ -1,0 +1,2 @@
+-- What is heard of a typed line.
+pub mod Heard
