@@ -1,16 +1,21 @@
-//! Sub-commands over a plain board: print, make, against, agree, walk, hex, unhex, bench, laps.
+//! Sub-commands over a plain board: print, make, against, agree, told, walk, hex, unhex, bench, laps.
 
 mod agree;
+mod answers;
 mod bench;
 mod board;
 #[cfg(test)]
 mod cases;
 mod make;
+#[cfg(test)]
+mod mistakes;
 mod random;
+mod session;
 mod sheet;
 mod sides;
 #[cfg(test)]
 mod slow;
+mod telling;
 mod walk;
 
 use random::Random;
@@ -23,6 +28,7 @@ const USAGE: &str = "usage:
   compare make DIR COUNT SEED [KIND]
   compare against PROGRAM COUNT SEED [KIND]
   compare agree COUNT SEED [KIND]
+  compare told PROGRAM COUNT SEED
   compare walk STEPS SEED
   compare hex FILE
   compare unhex                       < hex text
@@ -45,6 +51,7 @@ fn main() -> ExitCode {
         ["against", program, count, seed, kind] => against(program, count, seed, Some(kind)),
         ["agree", count, seed] => agree(count, seed, None),
         ["agree", count, seed, kind] => agree(count, seed, Some(kind)),
+        ["told", program, count, seed] => telling(program, count, seed),
         ["walk", steps, seed] => walk(steps, seed),
         ["hex", file] => hex(file),
         ["unhex"] => unhex(),
@@ -161,6 +168,32 @@ fn agree(count: &str, seed: &str, kind: Option<&str>) -> Result<(), String> {
         println!("answer {answer}: {sheets} sheets");
     }
     none_differ(different)
+}
+
+/// What the program tells of rings in made sessions, against a search on the plain board.
+fn telling(program: &str, count: &str, seed: &str) -> Result<(), String> {
+    let program = told(PathBuf::from(program).canonicalize(), program)?;
+    let counts = telling::compare(&program, number(count)?, number(seed)?)?;
+    println!("sessions {} with {} commands (refused {})", counts.sessions, counts.commands, counts.refused);
+    println!(
+        "boards compared {} (with a ring {}, with several {}, at most {} on a board)",
+        counts.boards, counts.with_a_ring, counts.with_several, counts.most_rings
+    );
+    println!(
+        "rings told {}: recorded {}, not recorded yet {}, not recorded where a member recorded another {}",
+        counts.recorded + counts.not_yet + counts.another,
+        counts.recorded,
+        counts.not_yet,
+        counts.another
+    );
+    let lengths = counts.lengths.iter().enumerate().filter(|(_, &rings)| rings != 0);
+    let lengths: Vec<String> = lengths.map(|(length, rings)| format!("{length}: {rings}")).collect();
+    println!("rings by length: {}", lengths.join(", "));
+    println!("differences {}", counts.differences);
+    match counts.first {
+        None => Ok(()),
+        Some(first) => Err(format!("the first difference, {first}")),
+    }
 }
 
 fn none_differ(different: usize) -> Result<(), String> {

@@ -42,7 +42,7 @@ impl Style {
     }
 }
 
-fn any_order(random: &mut Random) -> Order {
+pub fn any_order(random: &mut Random) -> Order {
     [Order::Lowest, Order::Highest, Order::Any, Order::Any][random.below(4)]
 }
 

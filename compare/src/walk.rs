@@ -10,7 +10,7 @@ use crate::sheet::{Command, Sheet};
 const MOST_DELIVERIES: u64 = 1920;
 
 /// `waits[p][q]`: process p waits for process q.
-type Waits = [[bool; 16]; 16];
+pub type Waits = [[bool; 16]; 16];
 
 #[derive(Default)]
 pub struct Counts {
@@ -145,7 +145,7 @@ fn load_afresh(board: &Board) -> u32 {
 }
 
 /// Two holds by different processes conflict unless both are shared.
-fn conflict(one: Mode, other: Mode) -> bool {
+pub fn conflict(one: Mode, other: Mode) -> bool {
     !(one == Mode::Shared && other == Mode::Shared)
 }
 
@@ -190,7 +190,7 @@ fn check_ring(starter: u8, ring: &Ring, waits: &Waits) -> Result<(), String> {
 
 /// A process in a line waits for each other process that holds the object in conflict with it,
 /// and for each process ahead of it in that line whose mode conflicts.
-fn waits(board: &Board) -> Waits {
+pub fn waits(board: &Board) -> Waits {
     let mut waits = [[false; 16]; 16];
     for object in 0..board.object_count {
         let mut ahead: Vec<(u8, Mode)> = Vec::new();
@@ -285,7 +285,7 @@ fn check_drain_call(board: &Board, quiet: &Board, made: u64, random: &mut Random
     expect(drained == *quiet, "drain and single deliveries part ways")
 }
 
-fn expect(holds: bool, wrong: &str) -> Result<(), String> {
+pub fn expect(holds: bool, wrong: &str) -> Result<(), String> {
     match holds {
         true => Ok(()),
         false => Err(wrong.to_string()),
