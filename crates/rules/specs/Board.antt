@@ -1,8 +1,8 @@
 -- The board: its records read and written, its messages, its load and its tally.
 use Prim.Native.Nat.{ℕ, _+_}
-use mathlib.Core.Bool.{Bool, true, false}
+use mathlib.Core.Bool.{Bool, true, false, _&&_}
 use mathlib.Core.List.{List, [], _∷_}
-use lib.Dec.{ltb}
+use lib.Dec.{eqb, ltb}
 use lib.ListN.{set, getD, replicate}
 use Rattle.rules.specs.declared.Mode.{Mode}
 use Rattle.rules.specs.declared.Wait.the-variants.{NotWaiting}
@@ -114,6 +114,18 @@ kindLoad (ListToObject o) = 1
 unfoldable pub load : Board → ℕ
 load b = sum 64 (λ n. kindLoad (kindAt b n)) + sum 16 (λ o. objectAt b o .«line_count»)
 
+-- ---- counting recorded rings, which stand in a table by their starters
+-- which of them count: those in filled places
+abbrev pub counts : List Ring → ℕ → Bool
+counts rings s = ltb 0 (getD rings s noRing .count)
+
+abbrev pub tallyOf : List Ring → ℕ
+tallyOf rings = countOf 16 (counts rings)
+
 -- "The ring tally is the number of filled places."
 unfoldable pub tally : Board → ℕ
-tally b = countOf 16 (λ s. ltb 0 (ringAt b s .count))
+tally b = tallyOf (b .rings)
+
+-- "recorded rings by length"
+unfoldable pub ringsOfLength : List Ring → ℕ → ℕ
+ringsOfLength rings l = countOf 16 (λ s. counts rings s && eqb l (getD rings s noRing .count))
