@@ -4,23 +4,19 @@ use mathlib.Core.List.{List, [], _∷_, _++_, append-nil}
 use Prim.Native.Nat.{ℕ, zero, suc, _+_, _-_, _≤_, _<_}
 use native.Mathlib.Omega.{arith}
 use native.Mathlib.Decide.{decLt}
-use lib.ListN.{length, take, drop, length-append, length-take}
-use lib.Seq.{take-all, take-append-le, take-append-add, take-at, length-take-le, length-sets, drop-length}
-use Rattle.text.specs.Text.{written, Wrote}
-use Rattle.text.proofs.Text.{written-parts}
-use Rattle.input.specs.Input.{behind, Pieces, none, one, Taken, PiecesTaken}
+use lib.ListN.{length, take, drop, length-append}
+use lib.Seq.{take-all, take-append-le, take-append-add, take-at, length-take-le, drop-length}
+use Rattle.text.specs.Text.{written, behind}
+use Rattle.text.proofs.Text.{written-parts, behind-length}
+use Rattle.input.specs.Input.{Pieces, none, one, Taken, PiecesTaken}
 
 -- nothing was read yet
 pub taken-none : (buffer : List ℕ) → Taken [] buffer 0
 taken-none buffer = record { first = refl; whole = refl }
 
-pub behind-length : (buffer : List ℕ) (n : ℕ) (p : List ℕ) → length (behind buffer n p) ≡ length buffer
-unfolding behind written
-behind-length buffer n p = length-sets buffer n (take (65536 - n) p)
-
 module _ (buffer w p : List ℕ) (n : ℕ) (size : length buffer ≡ 65536) (t : Taken w buffer n) where
   -- the buffer is full: nothing is put
-  full : 65536 ≤ n → take (n + length p) (behind buffer n p) ≡ take 65536 (w ++ p)
+  full : 65536 ≤ n → take (n + length p) (behind 65536 buffer n p) ≡ take 65536 (w ++ p)
   unfolding behind written
   full h =
       let none : 65536 - n ≡ 0 = omega arith in
@@ -35,7 +31,7 @@ module _ (buffer w p : List ℕ) (n : ℕ) (size : length buffer ≡ 65536) (t :
   before h = t .first ∙ take-all 65536 w (omega (arith, t .whole))
 
   -- the whole piece fits
-  fitting : n + length p ≤ 65536 → take (n + length p) (behind buffer n p) ≡ take 65536 (w ++ p)
+  fitting : n + length p ≤ 65536 → take (n + length p) (behind 65536 buffer n p) ≡ take 65536 (w ++ p)
   unfolding behind
   fitting h =
       let size-of : length (w ++ p) ≡ n + length p = length-append w p ∙ ap (λ (k : ℕ). k + length p) (sym (t .whole)) in
@@ -46,7 +42,7 @@ module _ (buffer w p : List ℕ) (n : ℕ) (size : length buffer ≡ 65536) (t :
       ∙ sym (take-all 65536 (w ++ p) (omega (arith, size-of))))
 
   -- a part of it does, and fills the buffer
-  filling : n < 65536 → 65536 < n + length p → take (n + length p) (behind buffer n p) ≡ take 65536 (w ++ p)
+  filling : n < 65536 → 65536 < n + length p → take (n + length p) (behind 65536 buffer n p) ≡ take 65536 (w ++ p)
   unfolding behind
   filling h g =
       let q = take (65536 - n) p in
@@ -54,7 +50,7 @@ module _ (buffer w p : List ℕ) (n : ℕ) (size : length buffer ≡ 65536) (t :
       let up : n + length q ≡ length buffer = omega (arith, some, size) in
       let rest : drop (n + length q) buffer ≡ [] = ap (λ (k : ℕ). drop k buffer) up ∙ drop-length buffer in
       let sum : length w + (65536 - n) ≡ 65536 = omega (arith, t .whole) in
-      take-all (n + length p) (behind buffer n p) (omega (arith, behind-length buffer n p))
+      take-all (n + length p) (behind 65536 buffer n p) (omega (arith, behind-length 65536 buffer n p))
       ∙ written-parts buffer n q (omega (arith, some))
       ∙ ap (λ (x : List ℕ). x ++ q ++ drop (n + length q) buffer) (before (omega arith))
       ∙ ap (λ (x : List ℕ). w ++ q ++ x) rest
@@ -62,7 +58,7 @@ module _ (buffer w p : List ℕ) (n : ℕ) (size : length buffer ≡ 65536) (t :
       ∙ sym (take-append-add w p (65536 - n))
       ∙ ap (λ (k : ℕ). take k (w ++ p)) sum
 
-  pub taken-more : Taken (w ++ p) (behind buffer n p) (n + length p)
+  pub taken-more : Taken (w ++ p) (behind 65536 buffer n p) (n + length p)
   taken-more = record {
     first = elim (decLt n 65536) [
       | yes h ↦ elim (decLt 65536 (n + length p)) [ yes g ↦ filling h g | no g ↦ fitting (omega (arith, g)) ]
@@ -73,27 +69,15 @@ module _ (buffer w p : List ℕ) (n : ℕ) (size : length buffer ≡ 65536) (t :
 
 pieces-length : (old w buffer : List ℕ) (n : ℕ) → Pieces old w buffer n → length buffer ≡ length old
 pieces-length old w buffer n none = refl
-pieces-length old w buffer n (one {w = v} {buffer = before} {n = m} r p) = behind-length before m p ∙ pieces-length old v before m r
+pieces-length old w buffer n (one {w = v} {buffer = before} {n = m} r p) = behind-length 65536 before m p ∙ pieces-length old v before m r
 
 pub pieces-taken : PiecesTaken
 pieces-taken old w buffer n size none = taken-none old
 pieces-taken old w buffer n size (one {w = v} {buffer = before} {n = m} r p) = taken-more before v p m (pieces-length old v before m r ∙ size) (pieces-taken old v before m size r)
 
 -- some pieces were taken in, and one more
-pub some-more : (old buffer p : List ℕ) (n : ℕ) {after : List ℕ} {m : ℕ} → ((w : List ℕ) × Pieces old w buffer n) → after ≡ behind buffer n p → m ≡ n + length p → ((w : List ℕ) × Pieces old w after m)
+pub some-more : (old buffer p : List ℕ) (n : ℕ) {after : List ℕ} {m : ℕ} → ((w : List ℕ) × Pieces old w buffer n) → after ≡ behind 65536 buffer n p → m ≡ n + length p → ((w : List ℕ) × Pieces old w after m)
 some-more old buffer p n t e f = rw (e, f) (t .0 ++ p, one (t .1) p)
 
-pub as-long : (buffer p : List ℕ) (n : ℕ) {after : List ℕ} → length buffer ≡ 65536 → after ≡ behind buffer n p → length after ≡ 65536
-as-long buffer p n size e = rw e (behind-length buffer n p ∙ size)
-
--- ---- one piece, as the code takes it in
-pub behind-full : (buffer : List ℕ) (n : ℕ) (p : List ℕ) → 65536 ≤ n → buffer ≡ behind buffer n p
-unfolding behind written
-behind-full buffer n p h = let none : 65536 - n ≡ 0 = omega arith in rw none
-
-pub behind-put : (p : List ℕ) (n : ℕ) {buffer after q : List ℕ} {end : ℕ} → q ≡ take (65536 - n) p → Wrote buffer n q after end → after ≡ behind buffer n p
-unfolding behind
-behind-put p n {buffer} {after} {q} {end} e w = rw (sym e) (w .text)
-
-pub fits : (n : ℕ) (q p : List ℕ) → n < 65536 → q ≡ take (65536 - n) p → n + length q ≤ 65536
-fits n q p h e = omega (arith, ap length e, length-take (65536 - n) p)
+pub as-long : (buffer p : List ℕ) (n : ℕ) {after : List ℕ} → length buffer ≡ 65536 → after ≡ behind 65536 buffer n p → length after ≡ 65536
+as-long buffer p n size e = rw e (behind-length 65536 buffer n p ∙ size)

@@ -1,10 +1,11 @@
-// Reads an input to its end: its first bytes are kept in a lent buffer, and all of its bytes are counted. No sheet fills the buffer, but whether
-// the length of a longer input is odd decides how it is refused.
+// Reads an input to its end: its first bytes are kept in a lent buffer, and all of its bytes are counted. No sheet fills the buffer, but
+// whether the length of a longer input is odd decides how it is refused.
 ghost use mathlib.Core.Path.{_≡_};
 ghost use mathlib.Core.List.{List};
 ghost use Prim.Native.Nat.{ℕ, _+_, _<_, _≤_, _^_};
 ghost use lib.ListN.{length};
-ghost use Rattle.input.specs.Input.{behind, Pieces};
+ghost use Rattle.text.specs.Text.{behind};
+ghost use Rattle.input.specs.Input.{Pieces};
 use program::Read;
 use text::start;
 use text::word;
@@ -12,7 +13,7 @@ use text::word;
 // A piece is taken in behind the `total` bytes before it, as much of it as the buffer has room for. Handed back is how many there are then.
 fn taken(first: &mut [u8; 65536], total: usize, piece: &[u8]) -> usize
     requires { ⌜ total + length (now piece) < 2 ^ 64 ⌝ }
-    ensures { λ r. ⌜ (now (first .exit) ≡ behind (now (first .entry)) total (now (piece .entry))) × (r ≡ total + length (now (piece .entry))) ⌝ }
+    ensures { λ r. ⌜ (now (first .exit) ≡ behind 65536 (now (first .entry)) total (now (piece .entry))) × (r ≡ total + length (now (piece .entry))) ⌝ }
 {
     if 65536 <= total {
         return total + piece.len();

@@ -1,4 +1,5 @@
--- Laws of the lines: each by the parts that are put one after another, and the sides and lines of a board by one more of them. Assumes nothing.
+-- Laws of the lines: each by the parts that are put one after another, and the sides and lines of a board by one more of them.
+-- Assumes nothing.
 use mathlib.Core.Path.{_≡_, refl, sym, ap, _∙_}
 use mathlib.Core.Bool.{Bool, true, false}
 use mathlib.Core.Option.{none, some}
@@ -25,10 +26,6 @@ use Rattle.printed.specs.Lines.{letter, entry, entryIf, holderEntries, l
 use Rattle.text.proofs.Text.{spaces-append, spaces-one}
 
 -- ---- one more
-pub flat-next : (f : ℕ → List ℕ) (k : ℕ) → flat k f ++ f k ≡ flat (k + 1) f
-unfolding flat
-flat-next f k = rw add-one
-
 pub side-next : (f : ℕ → List (List ℕ)) (k : ℕ) → afterSpaces (flat k f) ++ afterSpaces (f k) ≡ afterSpaces (flat (k + 1) f)
 unfolding flat
 side-next f k = rw add-one (sym (spaces-append (flat k f) (f k)))
@@ -38,10 +35,6 @@ unfolding rows
 rows-next f k = rw add-one (sym (spaces-append (rows k f) (f k ∷ [])))
 
 -- ---- none yet
-pub no-lines : (f : ℕ → List ℕ) → [] ≡ flat 0 f
-unfolding flat
-no-lines f = refl
-
 pub no-side : (f : ℕ → List (List ℕ)) → [] ≡ afterSpaces (flat 0 f)
 unfolding flat afterSpaces
 no-side f = refl

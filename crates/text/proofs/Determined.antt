@@ -17,6 +17,7 @@ use Rattle.text.proofs.Text.{wrote-only}
 use Rattle.text.proofs.put as put
 use Rattle.text.proofs.word as word
 use Rattle.text.proofs.number as number
+use Rattle.text.proofs.total as total
 use Rattle.text.proofs.at_most as at-most
 use Rattle.text.proofs.start as start
 
@@ -29,6 +30,9 @@ module _ {M : Type 1} (𝓤 : URA M) (H : Heap 𝓤) (A : Atoms 𝓤) (mem : Mem
 
   pub number-determined : Determined number.ended (number.clauses 𝓤 H A mem run) {S = List ℕ × ℕ} (λ κs r e. (e .0 .now, r))
   number-determined = by-fact (λ κs a r e. Wrote (a .0 .now) (a .1 .0) (decimal (a .1 .1 .0)) (e .0 .now) r × (r ≤ a .1 .0 + 4)) (λ κs a r other e left p q. wrote-only (p .0) (q .0)) (λ κs a g r e. refl)
+
+  pub total-determined : Determined total.ended (total.clauses 𝓤 H A mem run) {S = List ℕ × ℕ} (λ κs r e. (e .0 .now, r))
+  total-determined = by-fact (λ κs a r e. Wrote (a .0 .now) (a .1 .0) (decimal (a .1 .1 .0)) (e .0 .now) r × (r ≤ a .1 .0 + 20)) (λ κs a r other e left p q. wrote-only (p .0) (q .0)) (λ κs a g r e. refl)
 
   pub at-most-determined : Determined at-most.ended (at-most.clauses 𝓤 H A mem run) (λ κs r e. r)
   at-most-determined = by-equation-with (λ κs a. atMost (a .0) (a .1 .0)) (λ κs a r e. r ≤ a .0) (λ κs a g r e. refl)

@@ -2,16 +2,16 @@
 use mathlib.Core.Path.{_≡_, refl, sym, ap, _∙_}
 use mathlib.Core.Bool.{Bool, true, false}
 use mathlib.Core.List.{List, [], _∷_, _++_, append-assoc, append-nil}
-use Prim.Native.Nat.{ℕ, zero, suc, _+_, _-_, _*_, _/_, _%_, _≤_, _<_}
+use Prim.Native.Nat.{ℕ, zero, suc, _+_, _-_, _*_, _/_, _%_, _^_, _≤_, _<_}
 use native.Mathlib.Omega.{arith}
 use native.Mathlib.Numerals.{add-one}
 use lib.Dec.{ltb}
-use lib.ListN.{length, take, drop, getD, set, length-append}
-use lib.Seq.{sets, sets-eq, take-append-seam, take-suc}
+use lib.ListN.{length, take, drop, getD, set, length-append, length-take}
+use lib.Seq.{sets, sets-eq, length-sets, take-append-seam, take-suc}
 use borrow.Author.Tests.{ltb-true, ltb-false, lt-ltb, le-ltb}
 use Rattle.rules.specs.Tables.{rows}
 use Rattle.rules.proofs.Tables.{by-test}
-use Rattle.text.specs.Text.{digits, decimal, readOn, afterSpaces, spaced, lineOf, flat, atMost, written, Wrote}
+use Rattle.text.specs.Text.{digits, decimal, readOn, afterSpaces, spaced, lineOf, flat, atMost, written, behind, Wrote}
 
 -- ---- a number in decimal
 digits-one : (d n : ℕ) → n < 10 → digits (suc d) n ≡ (48 + n) ∷ []
@@ -47,6 +47,39 @@ decimal-four n h =
     let e : n / 10 / 10 ≡ n / 100 = omega arith in
     rw (decimal-more n (omega arith), decimal-more (n / 10) (omega arith), e)
 
+-- ten, a hundred, a thousand: the least number of k + 2 digits
+tens : ℕ → ℕ
+tens zero = 10
+tens (suc k) = 10 * tens k
+
+decimal-length : (k n : ℕ) → n < tens k → length (decimal n) ≤ k + 1
+unfolding tens
+decimal-length zero n h = rw (decimal-one n h) (omega arith)
+decimal-length (suc k) n h = by-test (ltb n 10)
+    (λ t. rw (decimal-one n (ltb-true n 10 t)) (omega arith))
+    (λ t. rw (decimal-more n (ltb-false n 10 t), length-append (decimal (n / 10)) ((48 + n % 10) ∷ [])) (omega (arith, decimal-length k (n / 10) (omega arith))))
+
+-- a number of 64 bits has 20 digits at most, and all but its last are 19
+pub higher-length : (n : ℕ) → n < 2 ^ 64 → length (decimal (n / 10)) ≤ 19
+unfolding tens
+higher-length n h = decimal-length 18 (n / 10) (omega arith)
+
+-- no leading zero
+digits-lead : (d n : ℕ) → n < d → 0 < n → (z : ℕ) → 48 < getD (digits d n) 0 z
+digits-lead zero n h g z = absurd (omega arith)
+digits-lead (suc d) n h g z = by-test (ltb n 10)
+    (λ t. rw (digits-one d n (ltb-true n 10 t)) (omega arith))
+    (λ t. let l : 10 ≤ n = ltb-false n 10 t in
+    rw (digits-more d n l) (first-of (digits d (n / 10)) _ (digits-lead d (n / 10) (omega arith) (omega arith))))
+  where
+    first-of : (l m : List ℕ) → ((z : ℕ) → 48 < getD l 0 z) → 48 < getD (l ++ m) 0 z
+    first-of [] m lead = absurd (omega (arith, lead 0))
+    first-of (x ∷ l) m lead = lead z
+
+pub decimal-lead : (n : ℕ) → 0 < n → 48 < getD (decimal n) 0 0
+unfolding decimal
+decimal-lead n h = digits-lead (suc n) n (omega arith) h 0
+
 -- the digits stand for the number
 read-last : (v : ℕ) (l : List ℕ) (d : ℕ) → readOn v (l ++ d ∷ []) ≡ 10 * readOn v l + (d - 48)
 unfolding readOn
@@ -73,6 +106,15 @@ spaces-append (w ∷ a) b = ap (λ (x : List ℕ). 32 ∷ w ++ x) (spaces-append
 pub spaces-one : (w : List ℕ) → afterSpaces (w ∷ []) ≡ 32 ∷ w
 unfolding afterSpaces
 spaces-one w = ap (λ (x : List ℕ). 32 ∷ x) (append-nil w)
+
+-- ---- lines one after another: none yet, and one more
+pub no-lines : (f : ℕ → List ℕ) → [] ≡ flat 0 f
+unfolding flat
+no-lines f = refl
+
+pub flat-next : (f : ℕ → List ℕ) (k : ℕ) → flat k f ++ f k ≡ flat (k + 1) f
+unfolding flat
+flat-next f k = rw add-one
 
 -- one letter more of a word
 pub take-next : (l : List ℕ) (i : ℕ) → i < length l → take (i + 1) l ≡ take i l ++ getD l i 0 ∷ []
@@ -117,6 +159,9 @@ module _ {old : List ℕ} {at : ℕ} where
   pub wrote-as : {xs ys new : List ℕ} {end : ℕ} → xs ≡ ys → Wrote old at xs new end → Wrote old at ys new end
   wrote-as {xs} {ys} {new} {end} e w = rw (sym e) w
 
+  pub wrote-at : {xs new : List ℕ} {end to : ℕ} → end ≡ to → Wrote old at xs new end → Wrote old at xs new to
+  wrote-at {xs} {new} {end} {to} e w = rw (sym e) w
+
 -- bytes put at a place leave one buffer and one place after them
 pub wrote-only : {old bytes new other : List ℕ} {at end to : ℕ} → Wrote old at bytes new end → Wrote old at bytes other to → _≡_ {A = List ℕ × ℕ} (new, end) (other, to)
 wrote-only a b i = ((a .text ∙ sym (b .text)) i, (a .place ∙ sym (b .place)) i)
@@ -125,6 +170,44 @@ wrote-only a b i = ((a .text ∙ sym (b .text)) i, (a .place ∙ sym (b .place))
 pub written-parts : (old : List ℕ) (at : ℕ) (bytes : List ℕ) → at + length bytes ≤ length old → written old at bytes ≡ take at old ++ bytes ++ drop (at + length bytes) old
 unfolding written
 written-parts old at bytes h = sets-eq bytes old at h
+
+-- ---- bytes behind those that came before
+pub behind-length : (room : ℕ) (buffer : List ℕ) (n : ℕ) (bytes : List ℕ) → length (behind room buffer n bytes) ≡ length buffer
+unfolding behind written
+behind-length room buffer n bytes = length-sets buffer n (take (room - n) bytes)
+
+pub behind-out : (room : ℕ) (buffer : List ℕ) (n : ℕ) (bytes : List ℕ) → room ≤ n → buffer ≡ behind room buffer n bytes
+unfolding behind written
+behind-out room buffer n bytes h = let e : room - n ≡ 0 = omega (arith, h) in rw e
+
+pub behind-next : (room : ℕ) (buffer : List ℕ) (n x : ℕ) (bytes : List ℕ) → n < room → behind room (set buffer n x) (suc n) bytes ≡ behind room buffer n (x ∷ bytes)
+unfolding behind written
+behind-next room buffer n x bytes h = let e : room - n ≡ suc (room - suc n) = omega (arith, h) in rw e
+
+take-nil : (k : ℕ) → take {A = ℕ} k [] ≡ []
+take-nil zero = refl
+take-nil (suc k) = refl
+
+behind-none : (room : ℕ) (buffer : List ℕ) (n : ℕ) → behind room buffer n [] ≡ buffer
+unfolding behind written
+behind-none room buffer n = ap (sets buffer n) (take-nil (room - n))
+
+-- one, and then the others
+pub behind-one : (room : ℕ) (buffer : List ℕ) (n x : ℕ) (bytes : List ℕ) → behind room (behind room buffer n (x ∷ [])) (suc n) bytes ≡ behind room buffer n (x ∷ bytes)
+behind-one room buffer n x bytes = by-test (ltb n room)
+    (λ t. let h : n < room = ltb-true n room t in
+    ap (λ (l : List ℕ). behind room l (suc n) bytes) (sym (behind-next room buffer n x [] h) ∙ behind-none room (set buffer n x) (suc n))
+    ∙ behind-next room buffer n x bytes h)
+    (λ t. let h : room ≤ n = ltb-false n room t in
+    sym (behind-out room _ (suc n) bytes (omega (arith, h))) ∙ sym (behind-out room buffer n (x ∷ []) h) ∙ behind-out room buffer n (x ∷ bytes) h)
+
+-- those that there is room for were put
+pub behind-put : (room : ℕ) (bytes : List ℕ) (n : ℕ) {buffer after q : List ℕ} {end : ℕ} → q ≡ take (room - n) bytes → Wrote buffer n q after end → after ≡ behind room buffer n bytes
+unfolding behind
+behind-put room bytes n {buffer} {after} {q} {end} e w = rw (sym e) (w .text)
+
+pub fits : (room n : ℕ) (q bytes : List ℕ) → n < room → q ≡ take (room - n) bytes → n + length q ≤ room
+fits room n q bytes h e = omega (arith, ap length e, length-take (room - n) bytes)
 
 -- put at the start, the bytes are the start
 pub wrote-start : (old bytes new : List ℕ) (end : ℕ) → Wrote old 0 bytes new end → end ≤ length old → take end new ≡ bytes

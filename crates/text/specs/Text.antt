@@ -1,4 +1,5 @@
--- Text as a list of bytes: letters, a number in decimal, words parted by spaces, lines one after another; and bytes put into a lent buffer at a place.
+-- Text as a list of bytes: letters, a number in decimal, words parted by spaces, lines one after another; and bytes put into a lent buffer
+-- at a place.
 use Prim.Native.Nat.{ℕ, zero, suc, _+_, _-_, _*_, _/_, _%_}
 use Prim.Native.Char.{code}
 use Prim.Native.String as Text
@@ -6,7 +7,7 @@ use mathlib.Core.Path.{_≡_}
 use mathlib.Core.Bool.{Bool, true, false}
 use mathlib.Core.List.{List, [], _∷_, _++_}
 use lib.Dec.{ltb}
-use lib.ListN.{length}
+use lib.ListN.{length, take}
 use lib.Seq.{sets}
 use Rattle.rules.specs.Tables.{pick}
 
@@ -58,6 +59,10 @@ atMost top n = pick (ltb n top) n top
 -- the buffer with the bytes in it from a place on, and all others as they were
 unfoldable pub written : List ℕ → ℕ → List ℕ → List ℕ
 written old at bytes = sets old at bytes
+
+-- bytes behind the n that came before, in a buffer for so many: those that there is room for
+unfoldable pub behind : ℕ → List ℕ → ℕ → List ℕ → List ℕ
+behind room buffer n bytes = written buffer n (take (room - n) bytes)
 
 -- the bytes were put there, and the place after them was handed back
 pub record Wrote (old : List ℕ) (at : ℕ) (bytes : List ℕ) (new : List ℕ) (end : ℕ) : Type 0 where

@@ -1,5 +1,5 @@
-// Text, put piece by piece into one lent buffer: each function puts something at a place and hands back the place after it. A byte, a word, a
-// number: what a program prints is built of these, and each is an equation with its definition in specs/.
+// Text, put piece by piece into one lent buffer: each function puts something at a place and hands back the place after it. A byte, a word,
+// a number: what a program prints is built of these, and each is an equation with its definition in specs/.
 ghost use mathlib.Core.Path.{_≡_};
 ghost use mathlib.Core.List.{[], _∷_};
 ghost use Prim.Native.Nat.{_+_, _<_, _≤_};
@@ -58,6 +58,18 @@ pub fn number(out: &mut [u8; 65536], at: usize, n: usize) -> usize
     let hundreds = below_hundred(out, at, n / 100);
     let tens = digit(out, hundreds, n / 10 % 10);
     digit(out, tens, n % 10)
+}
+
+// Any number of 64 bits, in decimal.
+pub fn total(out: &mut [u8; 65536], at: usize, n: u64) -> usize
+    requires { ⌜ at + 20 ≤ 65536 ⌝ }
+    ensures { λ r. ⌜ (Wrote (now (out .entry)) at (decimal n) (now (out .exit)) r) × (r ≤ at + 20) ⌝ }
+{
+    if n < 10 {
+        return digit(out, at, n as usize);
+    }
+    let higher = total(out, at, n / 10);
+    digit(out, higher, (n % 10) as usize)
 }
 
 // A count that is above its limit counts as the limit.

@@ -6,8 +6,8 @@ use lib.ListN.{getD}
 use borrow.Author.Needs.{needs}
 use Rattle.text.specs.Text.{Wrote, flat}
 use Rattle.printed.specs.Lines.{commandLine}
-use Rattle.printed.proofs.Lines.{no-lines, flat-next, commands-whole}
-use Rattle.text.proofs.Text.{at-most-is, wrote-none, wrote-as, wrote-then}
+use Rattle.printed.proofs.Lines.{commands-whole}
+use Rattle.text.proofs.Text.{no-lines, flat-next, at-most-is, wrote-none, wrote-as, wrote-then}
 use Rattle.report.proofs.lines.answer_lines.Statement.{statement}
 use Rattle.report.proofs.lines.answer_lines.Tie as tie
 

@@ -6,9 +6,9 @@ use borrow.Author.Needs.{needs}
 use Rattle.text.specs.Text.{Wrote, flat}
 use Rattle.printed.specs.Lines.{ringLine}
 use Rattle.rules.specs.Board.{ringAt}
-use Rattle.printed.proofs.Lines.{no-lines, flat-next, rings-whole}
+use Rattle.printed.proofs.Lines.{rings-whole}
 use Rattle.sums.proofs.Sums.{read-at, length-mapped}
-use Rattle.text.proofs.Text.{wrote-none, wrote-as, wrote-then}
+use Rattle.text.proofs.Text.{no-lines, flat-next, wrote-none, wrote-as, wrote-then}
 use Rattle.report.proofs.lines.ring_lines.Statement.{statement}
 use Rattle.report.proofs.lines.ring_lines.Tie as tie
 
