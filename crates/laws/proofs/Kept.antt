@@ -33,6 +33,7 @@ use Rattle.rules.specs.Lists.{plain, entryDone, addAll, starter, starterOf, ask
 use Rattle.rules.specs.Board.{processAt, objectAt, kindAt, listAt, putProcess, putObject, freed, inFlight, putFirst, send, load}
 use Rattle.rules.specs.Commands.{recording, arriving, modeOf, requested, released, delivered, effect, answerTo, turn, oneMore, draining}
 use Rattle.rules.specs.Shape.{holdsFit, rowFits, different, countsFit, processFits, objectFits, listFits, noList, messageFits, ringFits, upTo, standing, inShape, step}
+use Rattle.rules.specs.Sheet.{commandAt, boardAfter}
 use Rattle.rules.proofs.Tables.{by-test, both-left, not-passed}
 use Rattle.rules.proofs.Book.{joined-size, front-left-size, settled-keeps, settled-count}
 use Rattle.rules.proofs.Load.{load-object, load-delivered, load-requested, load-released}
@@ -286,6 +287,12 @@ effect-sound b (Do.Deliver n) h e = delivery-arrives b n (deliver-below b n e) h
 pub turn-sound : (b : Board) (c : Command) → Sound b → Sound (turn b c .board)
 unfolding turn
 turn-sound b c h = by-pick Sound (done (answerTo b c)) (effect-sound b c h) (λ e. h)
+
+-- commands one after another
+pub after-sound : (b : Board) → Sound b → (s : List ℕ) (i : ℕ) → Sound (boardAfter b s i)
+unfolding boardAfter
+after-sound b h s zero = h
+after-sound b h s (suc i) = turn-sound (boardAfter b s i) (commandAt s i) (after-sound b h s i)
 
 pub deliver-good : (b : Board) (n : ℕ) → Good b → Good (turn b (Do.Deliver n) .board)
 unfolding turn effect

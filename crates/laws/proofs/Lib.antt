@@ -4,6 +4,7 @@ pub mod Grants
 pub mod Ranges
 pub mod Tests
 pub mod Shape
+pub mod Rings
 pub mod Opening
 pub mod Books
 pub mod Lists

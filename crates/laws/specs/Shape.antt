@@ -1,6 +1,6 @@
 -- "A board is in shape when ..": the same sentence as a record of named facts, which proofs can use, beside the test `inShape`, which
 -- a computer can run. The two agree on every board whose arrays have the lengths that their types say.
-use Prim.Native.Nat.{ℕ, _^_, _≤_, _<_}
+use Prim.Native.Nat.{ℕ, _+_, _^_, _≤_, _<_}
 use mathlib.Core.Path.{_≡_}
 use mathlib.Core.Logic.{_≢_}
 use mathlib.Core.Bool.{true, false}
@@ -18,7 +18,8 @@ use Rattle.rules.specs.declared.Board.{Board}
 use Rattle.rules.specs.declared.Answer.the-variants.{Done}
 use Rattle.rules.specs.Bits.{taken}
 use Rattle.rules.specs.Lists.{entryAt, leadAt}
-use Rattle.rules.specs.Board.{processAt, objectAt, kindAt, listAt, ringAt, inFlight, isMessage, load}
+use Rattle.rules.specs.Tables.{sum}
+use Rattle.rules.specs.Board.{processAt, objectAt, kindAt, listAt, ringAt, inFlight, isMessage, load, tally, ringsOfLength}
 use Rattle.rules.specs.declared.Command.{Command}
 use Rattle.rules.specs.Commands.{opening, zeroBoard, turn}
 use Rattle.rules.specs.Shape.{upTo, standing, inShape}
@@ -156,3 +157,7 @@ pub record RefusedZeros : Type 0 where
 -- the lengths are kept by every command, also by one that puts the board out of shape
 abbrev pub SizesKept : Type 0
 SizesKept = (b : Board) (c : Command) → Sized b → Ranged b → Sized (turn b c .board)
+
+-- where every record is in shape, each recorded ring has one of the lengths 2 to 16: rings of these lengths are all that the tally counts
+abbrev pub RingLengths : Type 0
+RingLengths = (b : Board) → RecordsShaped b → sum 15 (λ k. ringsOfLength (b .rings) (2 + k)) ≡ tally b
