@@ -27,7 +27,7 @@ inside : (n top : ℕ) → 0 < n → n ≤ top → outside n top ≡ false
 inside n top h l = rw (lt-ltb 0 n h, le-leb n top l)
 
 module _ (s : List ℕ) where
-  opens : homeOutside (nodesOf s) (processesOf s) (processHomes s) ≡ false → homeOutside (nodesOf s) (objectsOf s) (objectHomes s) ≡ false
+  pub opens : homeOutside (nodesOf s) (processesOf s) (processHomes s) ≡ false → homeOutside (nodesOf s) (objectsOf s) (objectHomes s) ≡ false
       → opening (nodesOf s) (processesOf s) (objectsOf s) (processHomes s) (objectHomes s) .answer ≡ Done
   unfolding opening firstOf
   opens e f = rw (inside (nodesOf s) 8 (omega arith) (omega (arith, field-below s 4 3)), inside (processesOf s) 16 (omega arith) (omega (arith, field-below s 7 4)), inside (objectsOf s) 16 (omega arith) (omega (arith, field-below s 11 4)), e, f)
