@@ -1,0 +1,2 @@
+-- The promise of a stream as a whole.
+pub mod Whole

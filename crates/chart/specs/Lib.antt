@@ -1,0 +1,2 @@
+-- What is promised of a stream as a whole.
+pub mod Whole

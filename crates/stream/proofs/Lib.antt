@@ -1,0 +1,2 @@
+-- Laws of what was taken in.
+pub mod Pieces

@@ -1,0 +1,2 @@
+-- Definitions that the contracts cite.
+pub mod Pieces
