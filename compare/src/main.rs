@@ -1,4 +1,5 @@
-//! Sub-commands over a plain board: print, make, against, agree, told, walk, hex, unhex, bench, laps.
+//! Sub-commands over a plain board: print, make, against, agree, told, walk, hex, unhex, bench, laps;
+//! and over streams of sheets: chart, streams, term, term-bench.
 
 mod agree;
 mod answers;
@@ -6,6 +7,11 @@ mod bench;
 mod board;
 #[cfg(test)]
 mod cases;
+mod chart;
+#[cfg(test)]
+mod chart_cases;
+#[cfg(test)]
+mod chart_slow;
 mod make;
 #[cfg(test)]
 mod mistakes;
@@ -15,7 +21,9 @@ mod sheet;
 mod sides;
 #[cfg(test)]
 mod slow;
+mod streams;
 mod telling;
+mod term;
 mod walk;
 
 use random::Random;
@@ -34,6 +42,10 @@ const USAGE: &str = "usage:
   compare unhex                       < hex text
   compare bench DIR
   compare laps ours|plain PATH COUNT
+  compare chart [FILE]
+  compare streams PROGRAM COUNT SEED
+  compare term FILE COUNT SEED [KIND]
+  compare term-bench PROGRAM FILE
 KIND is accepted, contended, lists, refused, mixed, flooded or damaged; left out, any of them.";
 
 /// Where differing sheets are kept, and how many.
@@ -59,6 +71,12 @@ fn main() -> ExitCode {
         ["laps", side, path, count] => {
             number(count).and_then(|count| bench::laps(side, Path::new(path), count))
         }
+        ["chart"] => term::chart(None),
+        ["chart", file] => term::chart(Some(file)),
+        ["streams", program, count, seed] => streams(program, count, seed),
+        ["term", file, count, seed] => term(file, count, seed, None),
+        ["term", file, count, seed, kind] => term(file, count, seed, Some(kind)),
+        ["term-bench", program, file] => term::bench(Path::new(program), Path::new(file)),
         _ => Err(USAGE.to_string()),
     };
     match done {
@@ -143,7 +161,7 @@ fn against(program: &str, count: &str, seed: &str, kind: Option<&str>) -> Result
         }
     }
     println!("sheets {run} (of them refused {refused}) differences {different}");
-    none_differ(different)
+    none_differ("sheets", different)
 }
 
 /// The proved library and the plain board in this process, which is much faster than running a program.
@@ -167,7 +185,7 @@ fn agree(count: &str, seed: &str, kind: Option<&str>) -> Result<(), String> {
     for (answer, sheets) in answered.iter().enumerate().filter(|(_, &sheets)| sheets != 0) {
         println!("answer {answer}: {sheets} sheets");
     }
-    none_differ(different)
+    none_differ("sheets", different)
 }
 
 /// What the program tells of rings in made sessions, against a search on the plain board.
@@ -196,21 +214,58 @@ fn telling(program: &str, count: &str, seed: &str) -> Result<(), String> {
     }
 }
 
-fn none_differ(different: usize) -> Result<(), String> {
+/// The program's chart and the plain one on made streams.
+fn streams(program: &str, count: &str, seed: &str) -> Result<(), String> {
+    let program = told(PathBuf::from(program).canonicalize(), program)?;
+    let compared = term::compare(&program, number(count)?, number(seed)?, MOST_KEPT);
+    let compared = told(compared, "running the program")?;
+    let (totals, [file, whole, pieces]) = (&compared.totals, compared.by_way);
+    println!(
+        "streams {} with {} bytes, at most {} sheets in one",
+        compared.streams, compared.bytes, compared.most_sheets
+    );
+    println!("as a file {file}, on standard input whole {whole}, in pieces {pieces}");
+    print!("all charts together:\n{}", totals.print());
+    println!("differences {}", compared.different.len());
+    for (place, one) in compared.different.iter().enumerate().take(MOST_KEPT) {
+        println!("{place:05} {} {}", one.way.name(), one.besides);
+        told(keep_as("stream", place, &one.stream, &one.ours, one.plain.as_bytes()), DIFFERENCES)?;
+    }
+    none_differ("streams", compared.different.len())
+}
+
+/// One stream of made sheets for timing; without a kind, sheets as in a term.
+fn term(file: &str, count: &str, seed: &str, kind: Option<&str>) -> Result<(), String> {
+    let (count, seed) = (number(count)?, number(seed)?);
+    let written = match kind {
+        Some(_) => term::write(Path::new(file), sheets(count, seed, kind)?),
+        None => {
+            let mut random = Random::new(seed);
+            term::write(Path::new(file), (0..count).map(|_| streams::term_sheet(&mut random)))
+        }
+    };
+    told(written, file)
+}
+
+fn none_differ(what: &str, different: usize) -> Result<(), String> {
     match different {
         0 => Ok(()),
-        _ => Err(format!("the first differing sheets are kept in {DIFFERENCES}/")),
+        _ => Err(format!("the first differing {what} are kept in {DIFFERENCES}/")),
     }
 }
 
 /// Keeps a differing sheet, and what each side made of it, if it is one of the first.
 fn keep(place: usize, bytes: &[u8], ours: &[u8], plain: &[u8]) -> io::Result<()> {
+    keep_as("sheet", place, bytes, ours, plain)
+}
+
+fn keep_as(what: &str, place: usize, bytes: &[u8], ours: &[u8], plain: &[u8]) -> io::Result<()> {
     if place >= MOST_KEPT {
         return Ok(());
     }
     let dir = Path::new(DIFFERENCES);
     std::fs::create_dir_all(dir)?;
-    std::fs::write(dir.join(format!("{place:05}.sheet")), bytes)?;
+    std::fs::write(dir.join(format!("{place:05}.{what}")), bytes)?;
     std::fs::write(dir.join(format!("{place:05}.ours")), ours)?;
     std::fs::write(dir.join(format!("{place:05}.plain")), plain)
 }

@@ -126,7 +126,7 @@ fn any_homes(random: &mut Random, nodes: u8) -> [u8; 16] {
     std::array::from_fn(|_| random.below(nodes as usize) as u8)
 }
 
-fn opening_of(random: &mut Random, nodes: u8, processes: u8, objects: u8) -> Board {
+pub fn opening_of(random: &mut Random, nodes: u8, processes: u8, objects: u8) -> Board {
     let (process_homes, object_homes) = (any_homes(random, nodes), any_homes(random, nodes));
     Board::open(nodes, processes, objects, &process_homes, &object_homes)
         .expect("counts and homes are within their limits")
@@ -412,6 +412,49 @@ fn flooded(random: &mut Random) -> Draft {
         draft.deliver_all(random, order);
     }
     draft
+}
+
+/// Rings of these lengths, 16 processes at most in all: each process holds an object of its own and asks for
+/// that of the next in its ring. All messages are delivered.
+pub fn rings(random: &mut Random, lengths: &[usize]) -> Vec<u8> {
+    let processes = lengths.iter().sum::<usize>() as u8;
+    let nodes = random.between(1, 8) as u8;
+    let mut draft = Draft::new(opening_of(random, nodes, processes, processes));
+    for process in 0..processes {
+        draft.add(Command::Request { process, object: process, mode: 1 });
+    }
+    draft.deliver_all(random, Order::Lowest);
+    let mut left = shuffled(random, processes);
+    for &length in lengths {
+        let ring = left.split_off(left.len() - length);
+        for (place, &process) in ring.iter().enumerate() {
+            let object = ring[(place + 1) % length];
+            draft.add(Command::Request { process, object, mode: u8::from(random.percent(80)) });
+        }
+    }
+    let order = any_order(random);
+    draft.deliver_all(random, order);
+    draft.packed()
+}
+
+/// The numbers below a count in any order.
+fn shuffled(random: &mut Random, count: u8) -> Vec<u8> {
+    let mut numbers: Vec<u8> = (0..count).collect();
+    for place in (1..numbers.len()).rev() {
+        numbers.swap(place, random.below(place + 1));
+    }
+    numbers
+}
+
+/// A sheet of just this length: the opening, then good commands and perhaps an odd byte; less than the
+/// opening if it is shorter. Beyond 4,096 commands it goes on all the same.
+pub fn of_length(random: &mut Random, opening: &Board, length: usize) -> Vec<u8> {
+    let mut bytes = pack(opening, &[]);
+    while bytes.len() < length {
+        bytes.extend(good_word(random.next() as u16).to_be_bytes());
+    }
+    bytes.truncate(length);
+    bytes
 }
 
 /// The command word with its spare bits zero.

@@ -70,6 +70,11 @@ impl Slow {
         }
     }
 
+    /// The recorded rings by starter.
+    pub fn recorded(&self) -> Vec<Vec<usize>> {
+        self.rings.values().cloned().collect()
+    }
+
     pub fn step(&mut self, command: Command) -> u8 {
         match command {
             Command::Request { process, object, mode } => self.request(process.into(), object.into(), mode),
