@@ -19,7 +19,7 @@ lowest_used_found : (n i : ℕ) (f : Numbered Message) → FoundBy n i f (lowest
 unfolding lowest_used
 lowest_used_found zero i f = λ j a c. absurd (omega arith)
 lowest_used_found (suc n) i f =
-    let go : (x : Option Message) → f i ≡ x → FoundBy (suc n) i f (elim x [ none ↦ lowest_used n (suc i) f | some m ↦ some i ]) = λ x. elim x [
+    let go : (x : Option Message) → f i ≡ x → FoundBy (suc n) i f (elim x [ none ↦ lowest_used n (suc i) f | some m ↦ some i ]) = elim [
       | none ↦ λ e. next (lowest_used n (suc i) f) e (lowest_used_found n (suc i) f)
       | some m ↦ λ e. (omega arith, (m, e))
     ] in
@@ -38,7 +38,7 @@ drain_runs zero b k h = (stop, λ i lt. none_there (b.messages i) i lt refl)
     none_there none i lt e = e
     none_there (some m) i lt e = absurd (omega (arith, (delivery_progress b k.0 k.1 i lt m e).less))
 drain_runs (suc n) b k h =
-    let go : (x : Option ℕ) → lowest_used 64 0 b.messages ≡ x → FoundBy 64 0 b.messages x → Run (drain (suc n) b).made b (drain (suc n) b).board × NoMessages (drain (suc n) b).board = λ x. elim x [
+    let go : (x : Option ℕ) → lowest_used 64 0 b.messages ≡ x → FoundBy 64 0 b.messages x → Run (drain (suc n) b).made b (drain (suc n) b).board × NoMessages (drain (suc n) b).board = elim [
       | none ↦ λ e u. rw (e, drain) (stop, λ i lt. u i (omega arith) (omega arith))
       | some i ↦ λ e u.
           let lt : i < 64 = omega arith in

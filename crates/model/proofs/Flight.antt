@@ -20,7 +20,7 @@ module _ {A : Type 0} where
   unfolding lowest_from
   lowest_from_free zero i j f le lt e = absurd (omega arith)
   lowest_from_free (suc n) i j f le lt e =
-      let go : (x : Option A) → f i ≡ x → (lowest_from (suc n) i f < i + suc n) × (f (lowest_from (suc n) i f) ≡ none) = λ x. elim x [
+      let go : (x : Option A) → f i ≡ x → (lowest_from (suc n) i f < i + suc n) × (f (lowest_from (suc n) i f) ≡ none) = elim [
         | none ↦ λ z. rw (z, lowest_from) (omega arith, z)
         | some a ↦ λ z. rw (z, lowest_from) (elim (ℕ_discrete i j) [
           | yes y ↦ absurd (some_not_none (f j) a (rw (← y) z) e)

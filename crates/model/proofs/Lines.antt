@@ -18,6 +18,7 @@ sum_line_append v (e ∷ s) t = omega (arith, sum_line_append v s t)
 
 sum_line_in : (v : Waiter → ℕ) (p : ℕ) (m : Bool) (l : Line) → In p m l → v (standing p m) ≤ sum_line v l
 unfolding sum_line
+sum_line_in v p m [] x' = elim x' [ ]
 sum_line_in v p m (e ∷ l) (inl i) = rw (← i.0, ← i.1) (omega arith)
 sum_line_in v p m (e ∷ l) (inr i) = omega (arith, sum_line_in v p m l i)
 

@@ -12,6 +12,7 @@ use Rattle.model.proofs.Sums.{sum_le, sum_zero, sum_one, sum_add, same, same_yes
 
 module _ {A : Type 0} where
   pub any_left : (P : A → Type 0) (s t : List A) → Any P s → Any P (s ++ t)
+  any_left P [] t x' = elim x' [ ]
   any_left P (x ∷ s) t (inl a) = inl a
   any_left P (x ∷ s) t (inr a) = inr (any_left P s t a)
 
@@ -37,6 +38,7 @@ has_get_d (x ∷ l) zero h = inl refl
 has_get_d (x ∷ l) (suc j) h = inr (has_get_d l j (omega arith))
 
 pub has_index : (l : List ℕ) (q : ℕ) → Has q l → (j : ℕ) × (j < length l) × (get_or l j 0 ≡ q)
+has_index [] q x' = elim x' [ ]
 has_index (x ∷ l) q (inl e) = (0, omega arith, e)
 has_index (x ∷ l) q (inr h) = let r = has_index l q h in (suc r.0, omega arith, r.2)
 
@@ -59,6 +61,7 @@ fresh_in l (q ∷ qs) y h = go (has? q l) (fresh_in (q ∷ l) qs y) h
 
 pub fresh_all : (l : List ℕ) (qs : List ℕ) (y : ℕ) → Has y qs → Has y l ⊎ Has y (fresh l qs)
 unfolding fresh
+fresh_all l [] y h = elim h [ ]
 fresh_all l (q ∷ qs) y h = go (has? q l) (fresh_all (q ∷ l) qs y) h
   where
     go : (d : Dec (Has q l)) → (Has y qs → Has y (q ∷ l) ⊎ Has y (fresh (q ∷ l) qs)) → Has y (q ∷ qs) → Has y l ⊎ Has y (unless_has d q (fresh (q ∷ l) qs))

@@ -46,6 +46,7 @@ module _ (W : ℕ → ℕ → Type 0) where
   ring_out (x ∷ y ∷ l) a k h = let r = consecutive_from x (y ∷ l) x a h in (r.0, r.1, ring_next (x ∷ y ∷ l) a r.0 k r.1)
 
 pub next_member : (r : List ℕ) (a y : ℕ) → Next r a y → Has a r
+next_member [] a y n = elim n [ ]
 next_member (x ∷ l) a y n = go x l x n
   where
     go : (x : ℕ) (l : List ℕ) (z : ℕ) → Consecutive x l z a y → Has a (x ∷ l)
@@ -88,4 +89,5 @@ module _ (s : ℕ) (P : ℕ → Type 0) where
   walk_from x (y ∷ l) z f p (inr h) = walk_from y l z (λ a b t. f a b (inr t)) p h
 
   pub exhausted : (r : List ℕ) → Has s r → P s → ((a b : ℕ) → Next r a b → P a → P b × (b ≢ s)) → ⊥
+  exhausted [] h p f = elim h [ ]
   exhausted (x ∷ l) h p f = let k = walk_on x l x f (walk_from x l x f p h) in ⊎_elim k.1 k.2 h

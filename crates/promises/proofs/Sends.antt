@@ -43,7 +43,7 @@ free_lowest : (occupied : ℕ) (f : Numbered MessageM) (d i : ℕ) → ((j : ℕ
 unfolding free_from lowest_from
 free_lowest occupied f zero i h = refl
 free_lowest occupied f (suc d) i h =
-    let go : (x : Option MessageM) → f i ≡ x → free_from occupied (suc d) i ≡ lowest_from (suc d) i f = λ x. elim x [
+    let go : (x : Option MessageM) → f i ≡ x → free_from occupied (suc d) i ≡ lowest_from (suc d) i f = elim [
       | none ↦ λ e. let t : taken occupied i ≡ false = h i (omega arith) ∙ ap is_there e in rw (t, e, free_from, lowest_from)
       | some a ↦ λ e. let t : taken occupied i ≡ true = h i (omega arith) ∙ ap is_there e in rw (t, e, free_from, lowest_from) (free_lowest occupied f d (suc i) (λ j l. h j (omega arith)))
     ] in

@@ -63,6 +63,7 @@ strike_back h l s p q w = struck_back h l s p q (settle_back (put h s none) l p 
 -- ---- a process joins the line
 module _ (h : Holders) (e : Waiter) (p q : ℕ) where
   ahead_left : (m n : Bool) (l : Line) → Ahead p m q n l → Ahead p m q n (l ++ e ∷ [])
+  ahead_left m n [] x' = elim x' [ ]
   ahead_left m n (x ∷ l) (inl i) = inl (i.0, any_left _ l _ i.1)
   ahead_left m n (x ∷ l) (inr i) = inr (ahead_left m n l i)
 

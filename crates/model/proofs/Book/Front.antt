@@ -21,7 +21,7 @@ settle_blocked : (h : Holders) (l : Line) → FrontBlocked (settle h l).holders 
 unfolding settle
 settle_blocked h [] = tt
 settle_blocked h (e ∷ l) =
-    let go : (b : Bool) → clear h e.who e.mode ≡ b → FrontBlocked (settle h (e ∷ l)).holders (settle h (e ∷ l)).line = λ b. elim b [
+    let go : (b : Bool) → clear h e.who e.mode ≡ b → FrontBlocked (settle h (e ∷ l)).holders (settle h (e ∷ l)).line = elim [
       | true ↦ λ z. rw (z, settle) (settle_blocked (put h e.who (some e.mode)) l)
       | false ↦ λ z. rw (z, settle) z
     ] in
@@ -37,6 +37,7 @@ join_blocked h (e ∷ l) p m f k = k
 
 -- ---- so everyone waits for somebody
 in_unheld : (h : Holders) (l : Line) (p : ℕ) (m : Bool) → Apart h l → In p m l → h p ≡ none
+in_unheld h [] p m a x'' = elim x'' [ ]
 in_unheld h (e ∷ l) p m a (inl i) = rw (← i.0) a.0
 in_unheld h (e ∷ l) p m a (inr i) = in_unheld h l p m a.2 i
 
@@ -54,5 +55,6 @@ behind_blocked h e l p q m a i (n, ne, hq, c) = go (conflict m e.mode) refl
     go false z = (q, held m n (λ y. some_not_none (h q) n hq (rw y at (in_unheld h l p m a.2 i))) (conflict_too m e.mode n z c) (inr i) hq)
 
 pub line_blocked : (h : Holders) (l : Line) → Fit h l → FrontBlocked h l → (p : ℕ) (m : Bool) → In p m l → (q : ℕ) × WaitsAt h l p q
+line_blocked h [] r k p m x3 = elim x3 [ ]
 line_blocked h (e ∷ l) r k p m (inl i) = let (q, (n, ne, hq, c)) = not_clear h e.who e.mode k in (q, held m n (λ y. ne (sym y ∙ sym i.0)) (rw (← i.1) c) (inl i) hq)
 line_blocked h (e ∷ l) r k p m (inr i) = let f = not_clear h e.who e.mode k in behind_blocked h e l p f.0 m r.apart i f.1

@@ -21,7 +21,7 @@ pub settle_fold : (P : Holders → Line → Settled → Type 0) → ((h : Holder
 unfolding settle
 settle_fold P f g h [] = f h []
 settle_fold P f g h (e ∷ l) =
-    let go : (b : Bool) → clear h e.who e.mode ≡ b → P h (e ∷ l) (settle h (e ∷ l)) = λ b. elim b [
+    let go : (b : Bool) → clear h e.who e.mode ≡ b → P h (e ∷ l) (settle h (e ∷ l)) = elim [
       | true ↦ λ z. rw (z, settle) (g h e l _ z (settle_fold P f g (put h e.who (some e.mode)) l))
       | false ↦ λ z. rw (z, settle) (f h (e ∷ l))
     ] in

@@ -13,14 +13,17 @@ use Rattle.model.proofs.Lists.{any_left, any_right, any_cases}
 use Rattle.model.proofs.Book.{holders_against_sound, holders_against_complete, Range, Apart, Fit}
 
 ahead_in : (p q : ℕ) (m n : Bool) (l : Line) → Ahead p m q n l → In p m l
+ahead_in p q m n [] x' = elim x' [ ]
 ahead_in p q m n (e ∷ l) (inl i) = inr i.1
 ahead_in p q m n (e ∷ l) (inr i) = inr (ahead_in p q m n l i)
 
 ahead_other : (p q : ℕ) (m n : Bool) (l : Line) → Ahead p m q n l → In q n l
+ahead_other p q m n [] x' = elim x' [ ]
 ahead_other p q m n (e ∷ l) (inl i) = inl i.0
 ahead_other p q m n (e ∷ l) (inr i) = inr (ahead_other p q m n l i)
 
 in_range : (l : Line) (q : ℕ) (n : Bool) → Range l → In q n l → q < 16
+in_range [] q n r x'' = elim x'' [ ]
 in_range (e ∷ l) q n r (inl i) = rw (← i.0) r.0
 in_range (e ∷ l) q n r (inr i) = in_range l q n r.1 i
 
@@ -45,6 +48,7 @@ only_if_sound false k q a = absurd a
 
 ahead_of_sound : (p q : ℕ) (m : Bool) (l : Line) → In p m l → Has q (ahead_of p m l) → (n : Bool) × (p ≢ q) × (conflict m n ≡ true) × Ahead p m q n l
 unfolding ahead_of
+ahead_of_sound p q m [] i a = elim i [ ]
 ahead_of_sound p q m (e ∷ l) i a = go (ℕ_discrete e.who p) i (ahead_of_sound p q m l) a
   where
     Goal : Line → Type 0
@@ -57,6 +61,7 @@ ahead_of_sound p q m (e ∷ l) i a = go (ℕ_discrete e.who p) i (ahead_of_sound
 
 ahead_of_complete : (p q : ℕ) (m n : Bool) (h : Holders) (l : Line) → Apart h l → conflict m n ≡ true → Ahead p m q n l → Has q (ahead_of p m l)
 unfolding ahead_of
+ahead_of_complete p q m n h [] a c i = elim i [ ]
 ahead_of_complete p q m n h (e ∷ l) a c i = go (ℕ_discrete e.who p) (ahead_of_complete p q m n h l a.2 c) i
   where
     go : (d : Dec (e.who ≡ p)) → (Ahead p m q n l → Has q (ahead_of p m l)) → Ahead p m q n (e ∷ l) → Has q (unless_same d (only_if (conflict m e.mode) e.who ++ ahead_of p m l))
@@ -76,6 +81,7 @@ mode_in_sound p m (x ∷ l) e = elim (ℕ_discrete x.who p) [
 
 pub mode_in_complete : (p : ℕ) (m : Bool) (h : Holders) (l : Line) → Apart h l → In p m l → mode_in p l ≡ some m
 unfolding mode_in
+mode_in_complete p m h [] a x'' = elim x'' [ ]
 mode_in_complete p m h (x ∷ l) a (inl i) = if_pos (ℕ_discrete x.who p) i.0 (some x.mode) (mode_in p l) ∙ ap some i.1
 mode_in_complete p m h (x ∷ l) a (inr i) = if_neg (ℕ_discrete x.who p) (λ z. a.1 m (rw z i)) (some x.mode) (mode_in p l) ∙ mode_in_complete p m h l a.2 i
 

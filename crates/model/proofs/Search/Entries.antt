@@ -14,6 +14,7 @@ use Rattle.model.proofs.Lists.{has_get_d, has_index, distinct_get_d, distinct_sh
 use Rattle.model.proofs.Search.{WellLed, Listed}
 
 pub names_listed : (es : List Entry) (y : ℕ) → Has y (names es) → Listed es y
+names_listed [] y x' = elim x' [ ]
 names_listed (e ∷ es) y (inl z) = (0, omega arith, z)
 names_listed (e ∷ es) y (inr h) = let r = names_listed es y h in (suc r.0, omega arith, r.2)
 

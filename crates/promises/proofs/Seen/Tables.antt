@@ -89,10 +89,12 @@ sum_ones (e ∷ l) = omega (arith, sum_ones l)
 
 -- ---- membership
 pub has_to : (x : ℕ) (l : List ℕ) → Among x l → Has x l
+has_to x [] x'' = elim x'' [ ]
 has_to x (y ∷ l) (inl e) = inl e
 has_to x (y ∷ l) (inr e) = inr (has_to x l e)
 
 pub has_from : (x : ℕ) (l : List ℕ) → Has x l → Among x l
+has_from x [] x'' = elim x'' [ ]
 has_from x (y ∷ l) (inl e) = inl e
 has_from x (y ∷ l) (inr e) = inr (has_from x l e)
 
