@@ -1,5 +1,7 @@
 // The engine of the board: one loop that holds the board as a local. It makes every write itself but those of the second and later grants
 // of one release. Each handler is shown one book. Only the bench calls it, on a board that was tested for shape or on an opening.
+#![tactic(auto)]
+
 ghost use Rattle.std.specs.Prelude.{◌≡◌};
 ghost use Rattle.rules.specs.Board as Boards;
 ghost use Rattle.engine.specs.Ready.{Ready};
