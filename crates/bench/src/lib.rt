@@ -1,5 +1,7 @@
 // The board: the commands one by one, many at once, an opening and its commands, and the drain. Each is equal to its rule, on every board
 // and for all numbers. A call on a board asks for its shape once, at its start, and is told its load.
+#![tactic(auto)]
+
 ghost use Rattle.std.specs.Prelude.{◌≡◌, []};
 ghost use Rattle.rules.specs.declared.Command.TheVariants as Do;
 ghost use Rattle.rules.specs.Shape as Rules;
