@@ -6,7 +6,7 @@ ghost use Rattle.bench.specs.Packed.{Packs};
 use rules::Command;
 
 // The two bytes that stand for a command; or the number of the answer that refuses it, and no bytes.
-#[derive(Drop)]
+#[derive(Clone, Copy)]
 pub struct Packed {
     pub refusal: u8,
     pub first: u8,

@@ -10,7 +10,7 @@ use rules::{Answer, Board};
 use senders::Site;
 use typed::{Typed, Verb};
 
-#[derive(Drop)]
+#[derive(Clone, Copy)]
 pub struct Desk {
     pub board: Board,
     pub senders: [u8; 64],
@@ -19,7 +19,7 @@ pub struct Desk {
 
 // What came of a line: the desk after it, the board's answer, how many deliveries a drain made, and the number of the message that
 // arrived, 64 where none did. And what follows: the desk was changed, the last change is to be taken back, or the input is left.
-#[derive(Drop)]
+#[derive(Clone, Copy)]
 pub struct Acted {
     pub desk: Desk,
     pub answer: Answer,

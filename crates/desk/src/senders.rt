@@ -19,7 +19,7 @@ pub fn at(row: [u8; 16], k: u8) -> u8
 
 // ---- where a command acts
 // The node that acts, and the message number that is freed; 64, which is none, where nothing arrives.
-#[derive(Drop)]
+#[derive(Clone, Copy)]
 pub struct Site {
     pub node: u8,
     pub freed: usize,

@@ -13,7 +13,7 @@ mod gather;
 pub mod ring;
 
 // One leg of the way of a list: what it is sent as, and the place of the entry asked next; Free and 0 where the list ends.
-#[derive(Drop)]
+#[derive(Clone, Copy)]
 pub struct Leg {
     pub kind: Kind,
     pub next: u8,

@@ -16,7 +16,7 @@ fn at(row: [u8; 16], k: u8) -> u8 {
 
 // What a message says: its form in the tables of forms, and the numbers that are put in. It goes to the home of an object or of a process;
 // a list asks a process there, or looks for it in the object's line.
-#[derive(Drop)]
+#[derive(Clone, Copy)]
 pub struct Said {
     pub form: u8,
     pub first: u8,

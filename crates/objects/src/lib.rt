@@ -1,4 +1,6 @@
 // What the home of an object does on a request and on a release: one message, one object's book.
+#![tactic(auto)]
+
 ghost use Rattle.std.specs.Prelude.{◌≡◌, ◌<◌, ◌-◌, [], ◌∷◌, ◌++◌, not, ◌&&◌, eqb, drop};
 ghost use Rattle.rules.specs.Bits as Bits;
 ghost use Rattle.rules.specs.Book as Book;

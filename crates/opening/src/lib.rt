@@ -1,4 +1,6 @@
 // An opening: counts and homes are tested, books and messages are empty.
+#![tactic(auto)]
+
 ghost use Rattle.std.specs.Prelude.{◌≡◌, ltb};
 ghost use Rattle.rules.specs.Tables.{pick};
 ghost use Rattle.rules.specs.Answers.{first_of};

@@ -1,4 +1,6 @@
 // What the home of a process does on a command and on a grant: one process's book.
+#![tactic(auto)]
+
 ghost use Rattle.std.specs.Prelude.{◌≡◌, ◌<◌};
 ghost use Rattle.rules.specs.Answers as Answers;
 ghost use Rattle.rules.specs.Home as Home;

@@ -4,7 +4,7 @@ ghost use Rattle.rules.specs.Sheet.{field, any_spare};
 ghost use Rattle.reader.specs.Place.{spare_in, commands_within, spares_at};
 
 // Whether a spare bit is set in one of the commands that were read, and the bit after them.
-#[derive(Drop)]
+#[derive(Clone, Copy)]
 pub struct Spares {
     pub set: bool,
     pub next: usize,

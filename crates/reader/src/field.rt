@@ -5,7 +5,7 @@ ghost use Rattle.reader.specs.Place as Place;
 ghost use Rattle.reader.specs.Place.{field_at};
 
 // The number that a field stands for, and the bit after the field.
-#[derive(Drop)]
+#[derive(Clone, Copy)]
 pub struct Number {
     pub value: usize,
     pub next: usize,

@@ -19,7 +19,7 @@ pub struct Reader<'a> {
 
 // What the pass over a sheet finds: the header, the homes and their spare bits, the byte at which the commands start, and whether a spare
 // bit is set in one of them.
-#[derive(Drop)]
+#[derive(Clone, Copy)]
 pub struct Found {
     pub form: usize,
     pub nodes: usize,

@@ -6,7 +6,7 @@ ghost use Rattle.reader.specs.Place.{row_from};
 use crate::field::{field, within};
 
 // A row of homes, and the bit after them.
-#[derive(Drop)]
+#[derive(Clone, Copy)]
 pub struct Row {
     pub homes: [u8; 16],
     pub next: usize,

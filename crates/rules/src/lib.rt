@@ -1,21 +1,21 @@
 // The board's types: books, messages, lists, rings, commands and answers.
 // There is no function here. What the commands do to a board is defined in specs/, a sentence of the paper beside each rule.
 
-#[derive(Drop)]
+#[derive(Clone, Copy)]
 pub enum Mode {
     Shared,
     Exclusive,
 }
 
 // What the home of a process notes of its wait: the object and the mode, or none.
-#[derive(Drop)]
+#[derive(Clone, Copy)]
 pub enum Wait {
     NotWaiting,
     Waiting(u8, Mode),
 }
 
 // The book of a process, kept by its home: the objects that it holds, as one set for each mode.
-#[derive(Drop)]
+#[derive(Clone, Copy)]
 pub struct Process {
     pub shared: u64,
     pub exclusive: u64,
@@ -25,7 +25,7 @@ pub struct Process {
 
 // The book of an object, kept by its home: the holders, as one set for each mode, and the line, oldest first.
 // Digit k of `line_exclusive` is the mode of place k of the line.
-#[derive(Drop)]
+#[derive(Clone, Copy)]
 pub struct Object {
     pub shared: u64,
     pub exclusive: u64,
@@ -35,7 +35,7 @@ pub struct Object {
 }
 
 // What a message is. A list is on its way to the home of its next entry, or to an object. An unused number is Free.
-#[derive(Drop)]
+#[derive(Clone, Copy)]
 pub enum Kind {
     Free,
     Request(u8, u8, Mode),
@@ -46,7 +46,7 @@ pub enum Kind {
 }
 
 // The entries of a list: the process of each and the place of the entry that led to it; and the place of the entry asked next.
-#[derive(Drop)]
+#[derive(Clone, Copy)]
 pub struct Entries {
     pub who: [u8; 16],
     pub leads: [u8; 16],
@@ -55,40 +55,40 @@ pub struct Entries {
 }
 
 // A message as the rules take and send it: its kind, with a list's entries beside it.
-#[derive(Drop)]
+#[derive(Clone, Copy)]
 pub struct Message {
     pub kind: Kind,
     pub list: Entries,
 }
 
 // The kind of the message that is in flight under a number. Its list stands under the same number in `lists`.
-#[derive(Drop)]
+#[derive(Clone, Copy)]
 pub struct Flight {
     pub kind: Kind,
 }
 
 // A recorded ring, starter first; a count of zero is an empty place.
-#[derive(Drop)]
+#[derive(Clone, Copy)]
 pub struct Ring {
     pub processes: [u8; 16],
     pub count: u8,
 }
 
 // What an object's home makes of a request: its book, and the grant or the list that it sends.
-#[derive(Drop)]
+#[derive(Clone, Copy)]
 pub struct Arrived {
     pub object: Object,
     pub sent: Message,
 }
 
 // What an object's home makes of a list: the list that goes on, and the ring that was found; no ring where none was.
-#[derive(Drop)]
+#[derive(Clone, Copy)]
 pub struct Looked {
     pub sent: Message,
     pub ring: Ring,
 }
 
-#[derive(Drop)]
+#[derive(Clone, Copy)]
 pub struct Board {
     pub nodes: u8,
     pub process_count: u8,
@@ -104,7 +104,7 @@ pub struct Board {
 }
 
 // Process, object and mode of a request; process and object of a release; the message number of a delivery.
-#[derive(Drop)]
+#[derive(Clone, Copy)]
 pub enum Command {
     Request(u8, u8, u8),
     Release(u8, u8),
@@ -112,7 +112,7 @@ pub enum Command {
 }
 
 // Done, then one case for each row of the table of answer numbers, in its order.
-#[derive(Drop)]
+#[derive(Clone, Copy)]
 pub enum Answer {
     Done,
     CountOutside,
@@ -136,14 +136,14 @@ pub enum Answer {
 }
 
 // What an opening, and a call on a board, hands back.
-#[derive(Drop)]
+#[derive(Clone, Copy)]
 pub struct Stepped {
     pub answer: Answer,
     pub board: Board,
 }
 
 // What a drain hands back: how many deliveries were made.
-#[derive(Drop)]
+#[derive(Clone, Copy)]
 pub struct Drained {
     pub answer: Answer,
     pub made: usize,
@@ -151,7 +151,7 @@ pub struct Drained {
 }
 
 // What running commands into lent room hands back: how many commands were run.
-#[derive(Drop)]
+#[derive(Clone, Copy)]
 pub struct Ran {
     pub answer: Answer,
     pub commands: usize,

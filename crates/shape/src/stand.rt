@@ -8,7 +8,7 @@ use values::bits::wide;
 
 // Those who stand, as a set, and whether one of them stands twice: then `twice` is 1. Both are whole words, since a record with a gap in
 // it is slow to copy.
-#[derive(Drop)]
+#[derive(Clone, Copy)]
 pub struct Standing {
     pub who: u64,
     pub twice: u64,

@@ -1,4 +1,6 @@
 // The two sums over a board: its load and its ring tally.
+#![tactic(auto)]
+
 ghost use Rattle.std.specs.Prelude.{◌≡◌, ◌≤◌};
 ghost use Rattle.rules.specs.Tables.{pick, sum};
 ghost use Rattle.rules.specs.Board as Rules;

@@ -14,7 +14,7 @@ use values::bits::wide;
 
 // Where a stream stands: before the length of a sheet, between the two bytes of a length, inside a sheet, or at its end. Of a sheet it is
 // said how many of its bytes came, 8,207 standing for more than the buffer holds, and how many are to come.
-#[derive(Drop)]
+#[derive(Clone, Copy)]
 pub enum Place {
     Between,
     Length(u8),
@@ -22,7 +22,7 @@ pub enum Place {
     Ended,
 }
 
-#[derive(Drop)]
+#[derive(Clone, Copy)]
 pub struct Chart {
     pub totals: Totals,
     pub place: Place,

@@ -10,7 +10,7 @@ use values::bits::wide;
 
 // How many sheets there were, how many of them ran and how many were refused; how many were refused with each number; how many ended with a
 // recorded ring; and how many recorded rings there were of each length.
-#[derive(Drop)]
+#[derive(Clone, Copy)]
 pub struct Totals {
     pub sheets: u64,
     pub ran: u64,
@@ -21,7 +21,7 @@ pub struct Totals {
 }
 
 // What a sheet comes to: its answer, and the rings that are recorded on its final board.
-#[derive(Drop)]
+#[derive(Clone, Copy)]
 pub struct Came {
     pub answer: Answer,
     pub rings: [Ring; 16],

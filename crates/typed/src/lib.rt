@@ -10,7 +10,7 @@ ghost use Rattle.typed.specs.Reading as Reading;
 ghost use Rattle.typed.specs.Words as Words;
 
 // What the first word of a line names. A line with no word is Blank.
-#[derive(Drop)]
+#[derive(Clone, Copy)]
 pub enum Verb {
     Blank,
     Open,
@@ -30,7 +30,7 @@ pub enum Verb {
 }
 
 // What a later word stands for. Odd is a word that is not understood.
-#[derive(Drop)]
+#[derive(Clone, Copy)]
 pub enum Meaning {
     Number(u16),
     Odd,
@@ -38,7 +38,7 @@ pub enum Meaning {
 
 // A line as it is understood: the verb, the numbers after it, how many words came after it, and the place of the first of these that is
 // not understood, counted from 1; 0 where each is. Three counts and the homes of 16 processes and 16 objects are the longest row.
-#[derive(Drop)]
+#[derive(Clone, Copy)]
 pub struct Typed {
     pub verb: Verb,
     pub numbers: [u16; 35],

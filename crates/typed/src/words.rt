@@ -4,7 +4,7 @@ ghost use Rattle.typed.specs.Words as Words;
 ghost use Rattle.typed.specs.Spans.{NextWord};
 
 // Where a word starts and where it ends.
-#[derive(Drop)]
+#[derive(Clone, Copy)]
 pub struct Span {
     pub start: usize,
     pub end: usize,

@@ -4,7 +4,7 @@ ghost use Rattle.std.specs.Prelude.{◌≡◌, ◌<◌};
 ghost use Rattle.undo.specs.Undo as Undo;
 
 // The place of the desk, how many changes are kept, and whether an older one was dropped.
-#[derive(Drop)]
+#[derive(Clone, Copy)]
 pub struct Kept {
     pub top: usize,
     pub count: usize,

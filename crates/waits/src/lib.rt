@@ -8,7 +8,7 @@ use values::mode::is_exclusive;
 use words::{clause, digit, either, items, members, say, size, text};
 
 // Some processes of a line, from the front.
-#[derive(Drop)]
+#[derive(Clone, Copy)]
 pub struct Stand {
     pub who: [u8; 16],
     pub count: u8,
