@@ -1,5 +1,7 @@
 // What a list meets: how it is started, what the home of a process does with it, and what the home of an object does with it. One list,
 // and one book or one noted wait.
+#![tactic(auto)]
+
 ghost use Rattle.std.specs.Prelude.{◌≡◌, ◌<◌, ◌≤◌};
 ghost use Rattle.rules.specs.Tables as Tables;
 ghost use Rattle.rules.specs.Book as Book;

@@ -1,5 +1,7 @@
 // Is a board in shape? Each test is proved equal to the clause of the rules that it is named after. A test is handed the records that it
 // reads and not the board, which would be copied for each.
+#![tactic(auto)]
+
 ghost use Rattle.std.specs.Prelude.{◌≡◌};
 ghost use Rattle.rules.specs.Shape.{in_shape};
 ghost use Rattle.shape.specs.Load.{load_in_shape};

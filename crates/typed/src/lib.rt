@@ -1,4 +1,6 @@
 // What a line typed at a terminal says. `read` is total: every line of bytes says something.
+#![tactic(auto)]
+
 pub mod homes;
 mod names;
 mod number;

@@ -1,5 +1,7 @@
 // The changes that undo can take back. The desk and at most 64 before it stand in a ring of 65 places, where a new one takes the place of
 // the oldest. These functions say which place; the desks are the caller's.
+#![tactic(auto)]
+
 ghost use Rattle.std.specs.Prelude.{◌≡◌, ◌<◌};
 ghost use Rattle.undo.specs.Undo as Undo;
 
