@@ -51,3 +51,62 @@ pub fn whole<R: std::io::Read>(from: &mut R, first: &mut [u8; 65536]) -> Read
         failed: Some(Error::from(ErrorKind::FileTooLarge)),
     }
 }
+
+#[cfg(test)]
+mod tests {
+    use super::whole;
+    use std::io::{Error, ErrorKind, Result};
+
+    // Gives a byte at each read, but is broken off by a signal at the second, and ends at the fourth or fails there.
+    #[derive(Drop)]
+    struct Broken {
+        turn: u8,
+        fails: bool,
+    }
+
+    impl std::io::Read for Broken {
+        fn read(&mut self, buf: &mut [u8]) -> Result<usize> {
+            self.turn = self.turn.saturating_add(1);
+            if self.turn == 2 {
+                return Err(Error::from(ErrorKind::Interrupted));
+            }
+            if self.turn > 3 && self.fails {
+                return Err(Error::from(ErrorKind::ConnectionReset));
+            }
+            if self.turn > 3 || buf.is_empty() {
+                return Ok(0);
+            }
+            buf[0] = b'a' + (self.turn - 1);
+            Ok(1)
+        }
+    }
+
+    #[test]
+    fn a_signal_loses_nothing(rt: HostRuntime) {
+        let mut first = [0u8; 65536];
+        let mut from = Broken {
+            turn: 0,
+            fails: false,
+        };
+        let read = whole(&mut from, &mut first);
+        assert_eq!(rt; read.count, 2);
+        assert!(rt; read.failed.is_none());
+        assert_eq!(rt; first[0], b'a');
+        assert_eq!(rt; first[1], b'c');
+    }
+
+    #[test]
+    fn a_failure_is_handed_on(rt: HostRuntime) {
+        let mut first = [0u8; 65536];
+        let mut from = Broken {
+            turn: 0,
+            fails: true,
+        };
+        let read = whole(&mut from, &mut first);
+        assert_eq!(rt; read.count, 2);
+        match read.failed {
+            Some(why) => assert!(rt; why.kind() == ErrorKind::ConnectionReset),
+            None => assert!(rt; false),
+        }
+    }
+}

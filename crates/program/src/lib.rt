@@ -2,8 +2,9 @@
 // error, and nothing else is. What an argument is taken for is an equation with its definition in specs/.
 #![tactic(auto)]
 
-ghost use Rattle.std.specs.Prelude.{◌≡◌, ◌<◌, length, take, None};
+ghost use Rattle.std.specs.Prelude.{◌≡◌, ◌≢◌, ◌<◌, length, take, IfSome, None};
 ghost use Rattle.io.specs.Counts.{IsPrefixLen};
+ghost use Rattle.std.specs.IoError.{error_kind};
 ghost use Rattle.std.specs.Io.KnownBytes.{Consumes, IsAtEnd};
 ghost use Rattle.program.specs.Argument.{argument_of, dashed};
 
@@ -194,6 +195,7 @@ pub fn write(rt: &(impl Print + Errors), bytes: &[u8]) -> bool {
 pub fn read_some<R: std::io::Read>(from: &mut R, piece: &mut [u8]) -> Read
     ensures within { IsPrefixLen result.count piece.new }
     ensures bytes { Consumes (R.remaining from.old) (R.remaining from.new) (take result.count piece.new) }
+    ensures retried { IfSome result.failed (λ why. error_kind why ≢ ErrorKind.Interrupted) }
     ensures end { result ≡ record { count = 0; failed = None } → 0 < length piece.old → IsAtEnd (R.remaining from.new) }
 {
     for _ in 0..u64::MAX {
@@ -215,7 +217,7 @@ pub fn read_some<R: std::io::Read>(from: &mut R, piece: &mut [u8]) -> Read
     }
     Read {
         count: 0,
-        failed: Some(Error::from(ErrorKind::Interrupted)),
+        failed: Some(Error::from(ErrorKind::TimedOut)),
     }
 }
 
