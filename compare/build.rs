@@ -7,11 +7,11 @@ fn main() {
     if std::env::var_os("CARGO_FEATURE_LINKED").is_none() {
         return;
     }
-    let folder = Path::new(env!("CARGO_MANIFEST_DIR")).join("../target/staticlib");
+    let folder = Path::new(env!("CARGO_MANIFEST_DIR")).join("../crates/linked/out");
     let archive = folder.join("liblinked.a");
     println!("cargo::rerun-if-changed={}", archive.display());
     if !archive.is_file() {
-        println!("cargo::error=target/staticlib/liblinked.a is missing: run `rt staticlib linked` in the folder above");
+        println!("cargo::error=crates/linked/out/liblinked.a is missing: run `rt lib` in crates/linked");
         return;
     }
     println!("cargo::rustc-link-search=native={}", folder.display());

@@ -34,7 +34,7 @@ pub fn ours() -> Result<Side, String> {
 
 #[cfg(not(feature = "linked"))]
 pub fn ours() -> Result<Side, String> {
-    Err("built without the proved library: run `rt staticlib linked` in the folder above, then \
+    Err("built without the proved library: run `rt lib` in crates/linked, then \
          `cargo build --release --offline --features linked`"
         .to_string())
 }

@@ -1,9 +1,14 @@
 // Reads a packed sheet, runs it, and prints each command's answer, the objects, the rings and the counts.
+#![tactic(auto)]
+
 use program::Source;
+use std::fs::File;
+use std::io::StdinLock;
 
 // What is read, by the argument; the text is what --help prints.
-fn started(name: &mut [u8; 4096]) -> Source {
+fn started(rt: &HostRuntime, name: &mut [u8; 4096]) -> Source<StdinLock<'static>, File> {
     program::start(
+        rt,
         b"board runs a packed sheet and prints what came of it.
 
   ./board FILE      runs the sheet in the file
@@ -24,16 +29,16 @@ written, or an argument is wrong; that is told on standard error.
     )
 }
 
-fn main() {
+fn main(rt: HostRuntime) {
     let mut name = io::buffer();
-    let Source::Reads { fd, named } = started(&mut name) else {
+    let Source::Reads { mut from, named } = started(&rt, &mut name) else {
         return;
     };
     let mut sheet = io::large_buffer();
-    let read = input::whole(fd, &mut sheet);
-    if read.failed {
-        program::read_failed(&name, named);
+    let read = input::whole(&mut from, &mut sheet);
+    if let Some(why) = read.failed {
+        program::read_failed(&rt, &name, named, why);
         return;
     }
-    report::show(&sheet, read.count);
+    report::show(&rt, &sheet, read.count);
 }

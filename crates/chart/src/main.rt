@@ -1,16 +1,21 @@
 // Reads a stream of sheets and prints its chart: how many sheets ran, how many were refused, and the rings that were recorded.
+#![tactic(auto)]
+
 ghost use Rattle.std.specs.Prelude.{◌≤◌};
 ghost use Rattle.text.specs.Text.{Wrote};
 ghost use Rattle.term.specs.Feed.{ended};
 ghost use Rattle.charted.specs.Lines.{chart_lines};
 
-use program::Source;
+use program::{Errors, Source};
+use std::fs::File;
+use std::io::StdinLock;
 use stream::screen;
 use term::Chart;
 
 // What is read, by the argument; the text is what --help prints.
-fn started(name: &mut [u8; 4096]) -> Source {
+fn started(rt: &HostRuntime, name: &mut [u8; 4096]) -> Source<StdinLock<'static>, File> {
     program::start(
+        rt,
         b"chart runs every sheet of a stream and prints how many came to what.
 
   ./chart FILE      reads the stream in the file
@@ -49,8 +54,8 @@ written, or an argument is wrong; that is told on standard error.
     )
 }
 
-fn print(text: &[u8; 65536], n: usize) {
-    program::write(text::start(text, n));
+fn print(rt: &(impl Print + Errors), text: &[u8; 65536], n: usize) {
+    program::write(rt, text::start(text, n));
 }
 
 // The stream has ended: the lines of its chart.
@@ -62,23 +67,23 @@ fn composed(out: &mut [u8; 65536], chart: Chart) -> usize
     charted::composed(out, totals)
 }
 
-fn show(chart: Chart) {
+fn show(rt: &(impl Print + Errors), chart: Chart) {
     let mut out = io::large_buffer();
     let end = composed(&mut out, chart);
-    print(&out, end);
+    print(rt, &out, end);
 }
 
-fn main() {
-    let terminal = screen::found();
+fn main(rt: HostRuntime) {
+    let terminal = screen::found(&rt);
     let mut name = io::buffer();
-    let Source::Reads { fd, named } = started(&mut name) else {
+    let Source::Reads { mut from, named } = started(&rt, &mut name) else {
         return;
     };
-    let taken = stream::whole(fd, terminal);
-    if taken.failed {
-        program::read_failed(&name, named);
+    let taken = stream::whole(&rt, &mut from, terminal);
+    if let Some(why) = taken.failed {
+        program::read_failed(&rt, &name, named, why);
         return;
     }
     let chart = taken.chart;
-    show(chart);
+    show(&rt, chart);
 }

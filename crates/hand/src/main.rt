@@ -1,42 +1,52 @@
 // A board stepped at a terminal: each line of the input is answered at once, until the input ends or says quit.
+#![tactic(auto)]
+
 use lines::{Feed, Line};
-use program::{Source, write};
+use program::{Errors, Source, write};
+use std::fs::File;
+use std::io::{Error, IsTerminal, StdinLock};
 use undo::Kept;
 
-fn say_if(typing: bool, s: &[u8]) -> bool {
+fn say_if(rt: &(impl Print + Errors), typing: bool, s: &[u8]) -> bool {
     if typing {
-        return write(s);
+        return write(rt, s);
     }
     true
 }
 
-fn greet(typing: bool) -> bool {
+fn greet(rt: &(impl Print + Errors), typing: bool) -> bool {
     say_if(
+        rt,
         typing,
         b"A board to step by hand. help shows the commands; open 3 3 2 opens a board.\n",
     )
 }
 
 // The next line. At a terminal it is asked for, and the end of the input ends the line that was asked for.
-fn asked(
+fn asked<I: std::io::Read>(
+    rt: &(impl Print + Errors),
     typing: bool,
-    fd: i32,
+    from: &mut I,
     piece: &mut [u8; 4096],
     room: &mut [u8; 1000],
     start: Feed,
 ) -> Line {
-    if !say_if(typing, b"> ") {
+    if !say_if(rt, typing, b"> ") {
         return lines::no_line(start);
     }
-    let line = lines::next_line(fd, piece, room, start);
+    let line = lines::next_line(from, piece, room, start);
     if lines::is_over(line) {
-        say_if(typing, b"\n");
+        say_if(rt, typing, b"\n");
     }
     line
 }
 
-// Each line is read, answered and done, and its desk put in its place; whether a read failed. A write that fails ends the session.
-fn each_line(fd: i32, typing: bool) -> bool {
+// Each line is read, answered and done, and its desk put in its place; why a read failed, if one did. A write that fails ends the session.
+fn each_line<I: std::io::Read>(
+    rt: &(impl Print + Errors),
+    from: &mut I,
+    typing: bool,
+) -> Option<Error> {
     let mut out = io::large_buffer();
     let mut piece = io::buffer();
     let mut room = [0u8; 1000];
@@ -47,10 +57,8 @@ fn each_line(fd: i32, typing: bool) -> bool {
         count: 0,
         dropped: false,
     };
-    let mut turns: usize = 18446744073709551615;
-    while 0 < turns {
-        turns -= 1;
-        let line = asked(typing, fd, &mut piece, &mut room, feed);
+    for _ in 0..u64::MAX {
+        let line = asked(rt, typing, from, &mut piece, &mut room, feed);
         if lines::is_over(line) {
             return line.failed;
         }
@@ -62,18 +70,19 @@ fn each_line(fd: i32, typing: bool) -> bool {
         let next = undo::place(kept);
         let after = acted.desk;
         past[next] = after;
-        let written = session::said(&mut out, typing, &room, line.count, desk, acted, kept);
-        if acted.ended | !written {
-            return false;
+        let written = session::said(rt, &mut out, typing, &room, line.count, desk, acted, kept);
+        if acted.ended || !written {
+            return None;
         }
         kept = undo::one_less(kept, acted.undo);
     }
-    false
+    None
 }
 
 // What is read, by the argument; the text is what --help prints.
-fn started(name: &mut [u8; 4096]) -> Source {
+fn started(rt: &HostRuntime, name: &mut [u8; 4096]) -> Source<StdinLock<'static>, File> {
     program::start(
+        rt,
         b"hand steps a board by commands, one to a line, and says what each node can
 know and what only the whole board shows.
 
@@ -91,16 +100,16 @@ written.
     )
 }
 
-fn main() {
+fn main(rt: HostRuntime) {
     let mut name = io::buffer();
-    let Source::Reads { fd, named } = started(&mut name) else {
+    let Source::Reads { mut from, named } = started(&rt, &mut name) else {
         return;
     };
-    let typing = libc::isatty(fd) == 1;
-    if !greet(typing) {
+    let typing = from.is_terminal();
+    if !greet(&rt, typing) {
         return;
     }
-    if each_line(fd, typing) {
-        program::read_failed(&name, named);
+    if let Some(why) = each_line(&rt, &mut from, typing) {
+        program::read_failed(&rt, &name, named, why);
     }
 }

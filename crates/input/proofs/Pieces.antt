@@ -1,11 +1,14 @@
 -- An input that is read piece by piece: each piece lengthens what was read by itself. Assumes nothing.
 use mathlib.Core.Path.{◌≡◌, refl, sym, ap, ◌∙◌}
-use mathlib.Core.List.{List, [], ◌∷◌, ◌++◌, append-nil}
-use Prim.Native.Nat.{ℕ, zero, suc, ◌+◌, ◌-◌, ◌≤◌, ◌<◌}
+use mathlib.Core.List.{List, [], ◌++◌, append-nil}
+use Prim.Native.Nat.{ℕ, ◌+◌, ◌-◌, ◌≤◌, ◌<◌}
 use native.Mathlib.Omega.{arith}
 use native.Mathlib.Decide.{dec_lt}
 use lib.ListN.{length, take, drop, length-append}
 use lib.Seq.{take_all, take-append-le, take-append-add, take_at, length-take-le, drop-length}
+use Rattle.std.specs.Prelude.{Option}
+use Rattle.std.specs.Io.KnownBytes.{Consumes}
+use Rattle.std.proofs.KnownBytes.{Consumes-nil, Consumes-trans}
 use Rattle.text.specs.Text.{written, behind}
 use Rattle.text.proofs.Text.{written_parts, behind_length}
 use Rattle.input.specs.Input.{Pieces, none, one, Taken, PiecesTaken}
@@ -75,9 +78,12 @@ pub pieces_taken : PiecesTaken
 pieces_taken old w buffer n size none = taken_none old
 pieces_taken old w buffer n size (one {w = v} {buffer = before} {n = m} r p) = taken_more before v p m (pieces_length old v before m r ∙ size) (pieces_taken old v before m size r)
 
--- some pieces were taken in, and one more
-pub some_more : (old buffer p : List ℕ) (n : ℕ) {after : List ℕ} {m : ℕ} → ((w : List ℕ) × Pieces old w buffer n) → after ≡ behind 65536 buffer n p → m ≡ n + length p → ((w : List ℕ) × Pieces old w after m)
-some_more old buffer p n t e f = rw (e, f) (t.0 ++ p, one t.1 p)
-
 pub as_long : (buffer p : List ℕ) (n : ℕ) {after : List ℕ} → length buffer ≡ 65536 → after ≡ behind 65536 buffer n p → length after ≡ 65536
 as_long buffer p n size e = rw e (behind_length 65536 buffer n p ∙ size)
+
+-- pieces that a reader gave were taken in, and one more
+pub more_known : (old buffer p : List ℕ) (n : ℕ) (a b c : Option (List ℕ)) {after : List ℕ} {m : ℕ} → ((w : List ℕ) × Pieces old w buffer n × Consumes a b w) → after ≡ behind 65536 buffer n p → m ≡ n + length p → Consumes b c p → ((w : List ℕ) × Pieces old w after m × Consumes a c w)
+more_known old buffer p n a b c t e f r = rw (e, f) (t.0 ++ p, one t.1 p, Consumes-trans a b c t.0 p t.2 r)
+
+pub none_known : (old : List ℕ) (a : Option (List ℕ)) → ((w : List ℕ) × Pieces old w old 0 × Consumes a a w)
+none_known old a = ([], none, Consumes-nil a)

@@ -1,11 +1,12 @@
 // The deliveries of a follow, each told with a write of its own: a drain is one delivery of the lowest number after another.
 use desk::Desk;
+use program::Errors;
 use typed::{Typed, Verb};
 use values::bits::lowest;
 
 // The words so far, in one write; whether it did not fail.
-pub fn print(out: &[u8; 65536], end: usize) -> bool {
-    program::write(text::start(out, end))
+pub fn print(rt: &(impl Print + Errors), out: &[u8; 65536], end: usize) -> bool {
+    program::write(rt, text::start(out, end))
 }
 
 // Where the words go on; what stands before that place is not written yet. And whether a write failed.
@@ -23,15 +24,20 @@ fn delivery(out: &mut [u8; 65536], at: usize, before: Desk, after: Desk) -> usiz
     rings::recorded_since(out, told, b"      ring recorded: ", old, new)
 }
 
-fn each(out: &mut [u8; 65536], start: usize, first: Desk, made: usize) -> Tail {
+fn each(
+    rt: &(impl Print + Errors),
+    out: &mut [u8; 65536],
+    start: usize,
+    first: Desk,
+    made: usize,
+) -> Tail {
     let mut desk = first;
     let mut at = start;
-    let mut i: usize = 0;
-    while i < made {
+    for _ in 0..made {
         let acted = desk::act(desk, typed::read(b"drain 1"));
         let after = acted.desk;
         let end = delivery(out, at, desk, after);
-        if !print(out, end) {
+        if !print(rt, out, end) {
             return Tail {
                 at: 0,
                 failed: true,
@@ -39,16 +45,22 @@ fn each(out: &mut [u8; 65536], start: usize, first: Desk, made: usize) -> Tail {
         }
         at = 0;
         desk = after;
-        i += 1;
     }
     Tail { at, failed: false }
 }
 
 // A line that is no follow has no delivery to tell.
-pub fn tell(out: &mut [u8; 65536], at: usize, before: Desk, t: Typed, made: usize) -> Tail {
+pub fn tell(
+    rt: &(impl Print + Errors),
+    out: &mut [u8; 65536],
+    at: usize,
+    before: Desk,
+    t: Typed,
+    made: usize,
+) -> Tail {
     let verb = t.verb;
     if let Verb::Follow = verb {
-        return each(out, at, before, made);
+        return each(rt, out, at, before, made);
     }
     Tail { at, failed: false }
 }

@@ -1,31 +1,34 @@
 // The input, line by line: read in pieces, so that a typed line is answered at once.
+#![tactic(auto)]
+
+use std::io::Error;
 
 // Where the piece in hand is read on, and where it ends.
-#[derive(Drop)]
+#[derive(Clone, Copy)]
 pub struct Feed {
     pub at: usize,
     pub end: usize,
 }
 
 // One byte of the input; or its end, which a failed read is too.
-#[derive(Drop)]
+#[derive(Clone, Copy)]
 pub struct Byte {
     pub feed: Feed,
     pub byte: u8,
     pub ended: bool,
-    pub failed: bool,
+    pub failed: Option<Error>,
 }
 
-// A line: how many bytes it had, of which the first are in the room, and whether the input ended with it, or a read failed.
-#[derive(Drop)]
+// A line: how many bytes it had, of which the first are in the room, and whether the input ended with it, or why a read failed.
+#[derive(Clone, Copy)]
 pub struct Line {
     pub feed: Feed,
     pub count: usize,
     pub ended: bool,
-    pub failed: bool,
+    pub failed: Option<Error>,
 }
 
-fn at_end(failed: bool) -> Byte {
+fn at_end(failed: Option<Error>) -> Byte {
     Byte {
         feed: Feed { at: 0, end: 0 },
         byte: 0,
@@ -34,7 +37,7 @@ fn at_end(failed: bool) -> Byte {
     }
 }
 
-fn next_byte(fd: i32, piece: &mut [u8; 4096], feed: Feed) -> Byte {
+fn next_byte<R: std::io::Read>(from: &mut R, piece: &mut [u8; 4096], feed: Feed) -> Byte {
     let at = feed.at;
     let end = feed.end;
     if at < end {
@@ -43,11 +46,11 @@ fn next_byte(fd: i32, piece: &mut [u8; 4096], feed: Feed) -> Byte {
                 feed: Feed { at: at + 1, end },
                 byte: piece[at],
                 ended: false,
-                failed: false,
+                failed: None,
             };
         }
     }
-    let read = program::read_some(fd, piece);
+    let read = program::read_some(from, piece);
     let n = read.count;
     if n == 0 {
         return at_end(read.failed);
@@ -56,7 +59,7 @@ fn next_byte(fd: i32, piece: &mut [u8; 4096], feed: Feed) -> Byte {
         feed: Feed { at: 1, end: n },
         byte: piece[0],
         ended: false,
-        failed: false,
+        failed: None,
     }
 }
 
@@ -68,13 +71,16 @@ fn store(room: &mut [u8; 1000], at: usize, byte: u8) {
 }
 
 // The next line, without its line feed. Every byte is counted.
-pub fn next_line(fd: i32, piece: &mut [u8; 4096], room: &mut [u8; 1000], start: Feed) -> Line {
+pub fn next_line<R: std::io::Read>(
+    from: &mut R,
+    piece: &mut [u8; 4096],
+    room: &mut [u8; 1000],
+    start: Feed,
+) -> Line {
     let mut feed = start;
     let mut count: usize = 0;
-    let mut turns: usize = 18446744073709551615;
-    while 0 < turns {
-        turns -= 1;
-        let b = next_byte(fd, piece, feed);
+    for _ in 0..usize::MAX {
+        let b = next_byte(from, piece, feed);
         feed = b.feed;
         if b.ended {
             return Line {
@@ -94,7 +100,7 @@ pub fn next_line(fd: i32, piece: &mut [u8; 4096], room: &mut [u8; 1000], start: 
         feed,
         count,
         ended: false,
-        failed: false,
+        failed: None,
     }
 }
 
@@ -104,13 +110,13 @@ pub fn no_line(feed: Feed) -> Line {
         feed,
         count: 0,
         ended: true,
-        failed: false,
+        failed: None,
     }
 }
 
 // The input is over: a read failed, or it ended and no last line without a line feed is left.
 pub fn is_over(line: Line) -> bool {
-    if line.failed {
+    if line.failed.is_some() {
         return true;
     }
     if line.count != 0 {

@@ -57,10 +57,8 @@ fn holders(out: &mut [u8; 65536], at: usize, o: Object) -> usize
     ensures { (Wrote out.old at (after_spaces (Printed.holder_entries o)) out.new result) × (result ≤ at + 96) }
 {
     let mut end = at;
-    let mut p: u8 = 0;
-    while p < 16 {
+    for p in 0..16u8 {
         end = holder(out, end, o, p);
-        p += 1;
     }
     end
 }
@@ -72,10 +70,8 @@ fn line(out: &mut [u8; 65536], at: usize, o: Object) -> usize
 {
     let n = at_most(16, wide(o.line_count));
     let mut end = at;
-    let mut k: usize = 0;
-    while k < n {
+    for k in 0..n {
         end = waiter(out, end, o, k);
-        k += 1;
     }
     end
 }
@@ -99,10 +95,8 @@ fn object_lines(out: &mut [u8; 65536], at: usize, b: Board) -> usize
 {
     let n = at_most(16, wide(b.object_count));
     let mut end = at;
-    let mut i: usize = 0;
-    while i < n {
+    for i in 0..n {
         end = object_line(out, end, i, b.objects[i]);
-        i += 1;
     }
     end
 }
@@ -123,10 +117,8 @@ fn members(out: &mut [u8; 65536], at: usize, ring: Ring) -> usize
 {
     let n = at_most(16, wide(ring.count));
     let mut end = at;
-    let mut k: usize = 0;
-    while k < n {
+    for k in 0..n {
         end = member(out, end, ring, k);
-        k += 1;
     }
     end
 }
@@ -150,10 +142,8 @@ fn ring_lines(out: &mut [u8; 65536], at: usize, b: Board) -> usize
     ensures { (Wrote out.old at (Printed.ring_lines b) out.new result) × (result ≤ at + 1360) }
 {
     let mut end = at;
-    let mut s: usize = 0;
-    while s < 16 {
+    for s in 0..16 {
         end = ring_line(out, end, b.rings[s]);
-        s += 1;
     }
     end
 }
@@ -192,10 +182,8 @@ fn answer_lines(out: &mut [u8; 65536], commands: usize, room: &[u8; 4096]) -> us
 {
     let n = at_most(4096, commands);
     let mut end: usize = 0;
-    let mut i: usize = 0;
-    while i < n {
+    for i in 0..n {
         end = answer_line(out, end, i, room[i]);
-        i += 1;
     }
     end
 }

@@ -1,4 +1,6 @@
 // A session, line by line: what a line that was read does to the desk, and what is said of it.
+#![tactic(auto)]
+
 mod echo;
 mod undone;
 
@@ -9,6 +11,7 @@ ghost use Rattle.session.specs.Heard.{heard};
 
 use desk::{Acted, Desk};
 use journeys::follow::print;
+use program::Errors;
 use typed::{Typed, Verb};
 use undo::Kept;
 
@@ -49,6 +52,7 @@ fn understood(out: &mut [u8; 65536], at: usize, desk: Desk, t: Typed, acted: Act
 
 // The answer to a line is written, and the line itself before it where it was not typed; whether no write failed.
 pub fn said(
+    rt: &(impl Print + Errors),
     out: &mut [u8; 65536],
     typing: bool,
     room: &[u8; 1000],
@@ -62,13 +66,13 @@ pub fn said(
     let begun = echo::tell(out, typing, room, count, is_blank(t));
     if 1000 < count {
         let end = replies::fault::too_long(out, begun);
-        return print(out, end);
+        return print(rt, out, end);
     }
-    let tail = journeys::follow::tell(out, begun, desk, t, acted.made);
+    let tail = journeys::follow::tell(rt, out, begun, desk, t, acted.made);
     if tail.failed {
         return false;
     }
     let told = understood(out, tail.at, desk, t, acted);
     let end = undone::tell(out, told, acted.undo, kept, after.command);
-    print(out, end)
+    print(rt, out, end)
 }

@@ -1,10 +1,13 @@
 // Runs a sheet command by command, each by a call of its own, in two ways: by value, and in the room that the board's owner lends. Both
 // are one result; what came of the second is printed, and a line if ever the first would print something else.
+#![tactic(auto)]
+
 ghost use Rattle.std.specs.Prelude.{◌≡◌, ◌*◌, ◌≤◌, length};
 ghost use Rattle.rules.specs.Shape as Rules;
 ghost use Rattle.steps.specs.BySteps.{board_by_steps, room_by_steps, commands_of, by_steps};
 
 use crate::command::command_at;
+use program::Errors;
 use rules::{Board, Command, Ran, Stepped};
 
 mod command;
@@ -64,10 +67,10 @@ fn run(s: &[u8], lent: bool, room: &mut [u8; 4096]) -> Ran
 }
 
 // Runs the sheet in both ways and prints what came of it on standard output.
-pub fn show(s: &[u8]) {
+pub fn show(rt: &(impl Print + Errors), s: &[u8]) {
     let mut by_value = [0u8; 4096];
     let mut in_room = [0u8; 4096];
     let first = run(s, false, &mut by_value);
     let second = run(s, true, &mut in_room);
-    report::show_both(first, &by_value, second, &in_room);
+    report::show_both(rt, first, &by_value, second, &in_room);
 }

@@ -3,44 +3,93 @@
 ghost use Rattle.std.specs.Prelude.{◌∷◌, ◌++◌, ◌≤◌};
 ghost use Rattle.text.specs.Text.{bytes, decimal, Wrote};
 
-// The terminal's descriptor, below 0 where there is none; how many letters stand there; and the time of the last count: in eighths of a
-// second of the processor, and in seconds of the clock, which goes on while a read waits.
+use program::Errors;
+use std::fs;
+use std::fs::{Files, OpenOptions};
+use std::io::{IsTerminal, Write};
+use std::os::unix::fs::FileTypeExt;
+use std::rt::Clock;
+use std::time::CpuClock;
+
+// Where the count is written: to standard error, to the terminal that a script handed on, or nowhere.
 #[derive(Drop)]
-pub struct Screen {
-    pub fd: i32,
+pub enum Outlet<F> {
+    StandardError,
+    Handed(F),
+    Nowhere,
+}
+
+// The terminal; how many letters stand there; and the time of the last count: in eighths of a second of the processor, and in seconds of the
+// clock, which goes on while a read waits.
+#[derive(Drop)]
+pub struct Screen<F> {
+    pub terminal: Outlet<F>,
     pub shown: usize,
-    pub eighth: i64,
-    pub second: i64,
+    pub eighth: u64,
+    pub second: u64,
 }
 
-// A script that takes standard error in hands its terminal on as 9.
-fn terminal() -> i32 {
-    if libc::isatty(libc::STDERR_FILENO) == 1 {
-        return libc::STDERR_FILENO;
+// A script that takes standard error in hands its terminal on as 9. Only a device is opened: a pipe would wait for its other end.
+const HANDED: &str = "/dev/fd/9";
+
+fn is_device(rt: &impl Files) -> bool {
+    match fs::metadata(rt, HANDED) {
+        Ok(file) => file.file_type().is_char_device(),
+        Err(_) => false,
     }
-    if libc::isatty(9) == 1 {
-        return 9;
+}
+
+fn handed<R: Files>(rt: &R) -> Outlet<R::File>
+where
+    R::File: IsTerminal,
+{
+    if !is_device(rt) {
+        return Outlet::Nowhere;
     }
-    -1
+    match OpenOptions::new().write(true).open(rt, HANDED) {
+        Ok(file) if file.is_terminal() => Outlet::Handed(file),
+        _ => Outlet::Nowhere,
+    }
 }
 
-// The processor's time is told in millionths of a second, of which 2^17 are about an eighth.
-fn eighth() -> i64 {
-    libc::clock() >> 17
+fn terminal<R: Files + Errors>(rt: &R) -> Outlet<R::File>
+where
+    R::File: IsTerminal,
+{
+    if rt.at_terminal() {
+        return Outlet::StandardError;
+    }
+    handed(rt)
 }
 
-fn second() -> i64 {
-    let mut now: i64 = 0;
-    libc::time(&mut now)
+// A clock that cannot be read stands still.
+fn eighth(rt: &impl CpuClock) -> u64 {
+    match rt.process_cpu_time() {
+        Ok(time) => {
+            let part = u64::from(time.subsec_nanos() / 125_000_000);
+            time.as_secs().wrapping_mul(8).wrapping_add(part)
+        }
+        Err(_) => 0,
+    }
+}
+
+fn second(rt: &impl Clock) -> u64 {
+    match rt.since_1970() {
+        Ok(time) => time.as_secs(),
+        Err(_) => 0,
+    }
 }
 
 // To be asked before any file is opened, whose descriptor may be 9.
-pub fn found() -> Screen {
+pub fn found<R: Files + Errors + Clock + CpuClock>(rt: &R) -> Screen<R::File>
+where
+    R::File: IsTerminal,
+{
     Screen {
-        fd: terminal(),
+        terminal: terminal(rt),
         shown: 0,
-        eighth: eighth(),
-        second: second(),
+        eighth: eighth(rt),
+        second: second(rt),
     }
 }
 
@@ -53,31 +102,42 @@ fn line(out: &mut [u8; 65536], sheets: u64) -> usize
 }
 
 // A write that fails is let be: the count is no part of what the program has to tell.
-fn write(fd: i32, out: &[u8; 65536], n: usize) {
-    io::write_all(fd, text::start(out, n));
+fn write<F: Write>(rt: &impl Errors, terminal: &mut Outlet<F>, bytes: &[u8]) {
+    match terminal {
+        Outlet::StandardError => rt.tell(bytes),
+        Outlet::Handed(file) => {
+            let _ = file.write_all(bytes);
+        }
+        Outlet::Nowhere => {}
+    }
 }
 
 // Handed back is how many letters stand there then.
-fn show(fd: i32, sheets: u64) -> usize {
+fn show<F: Write>(rt: &impl Errors, terminal: &mut Outlet<F>, sheets: u64) -> usize {
     let mut out = io::large_buffer();
     let end = line(&mut out, sheets);
-    write(fd, &out, end);
+    write(rt, terminal, text::start(&out, end));
     end
 }
 
 // The count, if it is time for it.
-pub fn counted(screen: Screen, sheets: u64) -> Screen {
-    if screen.fd < 0 {
+pub fn counted<R: Errors + Clock + CpuClock, F: Write + Drop>(
+    rt: &R,
+    screen: Screen<F>,
+    sheets: u64,
+) -> Screen<F> {
+    if let Outlet::Nowhere = screen.terminal {
         return screen;
     }
-    let eighth = eighth();
-    let second = second();
-    if (eighth == screen.eighth) & (second == screen.second) {
+    let eighth = eighth(rt);
+    let second = second(rt);
+    if eighth == screen.eighth && second == screen.second {
         return screen;
     }
-    let shown = show(screen.fd, sheets);
+    let mut terminal = screen.terminal;
+    let shown = show(rt, &mut terminal, sheets);
     Screen {
-        fd: screen.fd,
+        terminal,
         shown,
         eighth,
         second,
@@ -85,13 +145,12 @@ pub fn counted(screen: Screen, sheets: u64) -> Screen {
 }
 
 // The count is gone, and the next text starts where it stood. It has 28 letters at most, of which the first goes to the line's start.
-pub fn cleared(screen: Screen) {
+pub fn cleared<F: Write + Drop>(rt: &impl Errors, screen: Screen<F>) {
     if screen.shown == 0 {
         return;
     }
-    io::write_all(
-        screen.fd,
-        text::start(b"\r                           ", screen.shown),
-    );
-    io::write_all(screen.fd, b"\r");
+    let blank = text::start(b"\r                           ", screen.shown);
+    let mut terminal = screen.terminal;
+    write(rt, &mut terminal, blank);
+    write(rt, &mut terminal, b"\r");
 }

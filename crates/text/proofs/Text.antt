@@ -1,6 +1,5 @@
 -- Laws of text: a number by its digits, words by their spaces, and bytes put into a buffer one after another. Assumes nothing.
 use mathlib.Core.Path.{◌≡◌, refl, sym, ap, ◌∙◌}
-use mathlib.Core.Bool.{Bool, true, false}
 use mathlib.Core.List.{List, [], ◌∷◌, ◌++◌, append_assoc, append-nil}
 use Prim.Native.Nat.{ℕ, zero, suc, ◌+◌, ◌-◌, ◌*◌, ◌/◌, ◌%◌, ◌^◌, ◌≤◌, ◌<◌}
 use native.Mathlib.Omega.{arith}
@@ -9,9 +8,8 @@ use lib.Dec.{ltb}
 use lib.ListN.{length, take, drop, get_or, set, length-append, length-take}
 use lib.Seq.{sets, sets-eq, length-sets, take-append_seam, take-suc}
 use borrow.Author.Tests.{ltb-true, ltb-false, lt-ltb, le-ltb}
-use Rattle.rules.specs.Tables.{rows}
 use Rattle.rules.proofs.Tables.{by_test}
-use Rattle.text.specs.Text.{digits, decimal, read_on, after_spaces, spaced, line_of, flat, at_most, written, behind, Wrote}
+use Rattle.text.specs.Text.{digits, decimal, read_on, after_spaces, flat, at_most, written, behind, Wrote}
 
 -- ---- a number in decimal
 digits_one : (d n : ℕ) → n < 10 → digits (suc d) n ≡ (48 + n) ∷ []

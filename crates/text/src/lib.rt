@@ -1,5 +1,7 @@
 // Text, put piece by piece into one lent buffer: each function puts something at a place and hands back the place after it. A byte, a word,
 // a number: what a program prints is built of these, and each is an equation with its definition in specs/.
+#![tactic(auto)]
+
 ghost use Rattle.std.specs.Prelude.{◌≡◌, [], ◌∷◌, ◌+◌, ◌<◌, ◌≤◌, length, take};
 ghost use Rattle.text.specs.Text.{decimal, at_most, Wrote};
 

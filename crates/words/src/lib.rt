@@ -1,5 +1,7 @@
 // Words, put piece by piece into one lent buffer: each function puts something at a place and hands back the place after it. Text, numbers,
 // rows of tables, forms with their numbers put in, and rows of items. What does not fit the buffer is cut.
+#![tactic(auto)]
+
 ghost use Rattle.std.specs.Prelude.{◌<◌, ◌≤◌, length};
 
 use values::bits::{has, wide};
@@ -15,10 +17,8 @@ fn put(out: &mut [u8; 65536], at: usize, x: u8) -> usize {
 
 pub fn text(out: &mut [u8; 65536], at: usize, s: &[u8]) -> usize {
     let mut end = at;
-    let mut i: usize = 0;
-    while i < s.len() {
-        end = put(out, end, s[i]);
-        i += 1;
+    for byte in s {
+        end = put(out, end, *byte);
     }
     end
 }
@@ -63,15 +63,13 @@ fn place_of(s: &[u8], one: u8, other: u8, from: usize) -> usize
     requires { from ≤ length s.now }
     ensures { (from ≤ result) × (result ≤ length s.now) }
 {
-    let mut i = from;
-    while i < s.len() {
+    for i in from..s.len() {
         let byte = s[i];
-        if (byte == one) | (byte == other) {
+        if byte == one || byte == other {
             return i;
         }
-        i += 1;
     }
-    i
+    s.len()
 }
 
 // Where the row starts that comes after the one at a place.
@@ -89,10 +87,8 @@ fn next_row(table: &[u8], from: usize) -> usize
 // Row n of a table in which each row ends in a bar.
 pub fn row(table: &[u8], n: u8) -> &[u8] {
     let mut from: usize = 0;
-    let mut left = n;
-    while 0 < left {
+    for _ in 0..n {
         from = next_row(table, from);
-        left -= 1;
     }
     let to = place_of(table, b'|', b'|', from);
     &table[from..to]
@@ -125,16 +121,14 @@ fn put_in(out: &mut [u8; 65536], at: usize, mark: u8, n: u8) -> usize {
 pub fn say(out: &mut [u8; 65536], at: usize, form: &[u8], numbers: [u8; 4]) -> usize {
     let mut end = at;
     let mut from: usize = 0;
-    let mut k: usize = 0;
-    while k < 4 {
+    for number in numbers {
         let to = place_of(form, b'#', b'?', from);
         end = text(out, end, &form[from..to]);
         if form.len() <= to {
             return end;
         }
-        end = put_in(out, end, form[to], numbers[k]);
+        end = put_in(out, end, form[to], number);
         from = to + 1;
-        k += 1;
     }
     text(out, end, &form[from..])
 }
@@ -145,12 +139,10 @@ fn column(out: &[u8; 65536], at: usize) -> usize {
     if 65536 < at {
         return 0;
     }
-    let mut i = at;
-    while 0 < i {
-        if out[i - 1] == b'\n' {
-            return at - i;
+    for i in 0..at {
+        if out[at - 1 - i] == b'\n' {
+            return i;
         }
-        i -= 1;
     }
     at
 }
@@ -197,15 +189,13 @@ pub fn items(
     last: usize,
 ) -> usize {
     let mut end = at;
-    let mut i: u8 = 0;
-    while i < 16 {
+    for i in 0..16u8 {
         if count <= i {
             return end;
         }
         let k = wide(i);
         let mode = digit(has(exclusive, i));
         end = item(out, end, form, k, [row[k], mode, 0, 0], last);
-        i += 1;
     }
     end
 }
@@ -221,16 +211,12 @@ pub fn members(
 ) -> usize {
     let mut end = at;
     let mut told: usize = 0;
-    let mut i: u8 = 0;
-    while i < 16 {
-        if !has(set, i) {
-            i += 1;
-            continue;
+    for i in 0..16u8 {
+        if has(set, i) {
+            let mode = digit(has(exclusive, i));
+            end = item(out, end, form, told, [i, mode, 0, 0], last);
+            told += 1;
         }
-        let mode = digit(has(exclusive, i));
-        end = item(out, end, form, told, [i, mode, 0, 0], last);
-        told += 1;
-        i += 1;
     }
     end
 }

@@ -1,0 +1,15 @@
+-- `input::whole` meets its contract: each piece lengthens what was read by itself, and by what the reader gave. Assumes nothing.
+use Rattle.std.proofs.Common.{rules}
+use Rattle.input.proofs.Pieces.{more_known, none_known, as_long}
+use Rattle.input.proofs.whole.Goals as goal
+
+pub loop-init : goal.loop-init
+loop-init g c = (search rules, search rules, search rules, none_known _ _)
+
+pub loop-preserved : goal.loop-preserved
+loop-preserved g c = (
+  search rules,
+  search rules,
+  as_long _ _ _ c.loop.invariant.2 c.taken-total.ensures.0,
+  more_known _ _ _ _ _ _ _ c.loop.invariant.3 c.taken-total.ensures.0 c.taken-total.ensures.1 c.read_some-got.ensures.bytes,
+)
