@@ -1,4 +1,6 @@
 // The print of a chart: a line for each total, put into one lent buffer.
+#![tactic(auto)]
+
 ghost use Rattle.std.specs.Prelude.{◌≡◌, ◌+◌, ◌<◌, ◌≤◌, length};
 ghost use Rattle.text.specs.Text.{Wrote};
 ghost use Rattle.charted.specs.Lines.{total_line, place_line, refused_lines, ring_lines, chart_lines};

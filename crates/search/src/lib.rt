@@ -1,4 +1,6 @@
 // A ring of waits through a process, if there is one, found on the whole board. No node can do this: it takes the lines of every object.
+#![tactic(auto)]
+
 ghost use Rattle.std.specs.Prelude.{◌≡◌};
 ghost use Rattle.search.specs.Waiting as Waiting;
 ghost use Rattle.search.specs.Ways as Ways;

@@ -1,4 +1,6 @@
 // The totals of a chart, and what one sheet more makes of them.
+#![tactic(auto)]
+
 ghost use Rattle.std.specs.Prelude.{◌≡◌, [], ◌<◌, eqb, ltb, get_or};
 ghost use Rattle.rules.specs.Tables.{pick, rows};
 ghost use Rattle.rules.specs.Board.{counts, tally_of, rings_of_length};
