@@ -1,4 +1,6 @@
 // What a typed line asks of a board: a command, a drain's budget, or an opening; and whether the line is whole.
+#![tactic(auto)]
+
 pub mod line;
 
 ghost use Rattle.std.specs.Prelude.{◌≡◌};

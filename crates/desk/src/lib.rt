@@ -1,5 +1,7 @@
 // The desk: a board, with the node that sent each message in flight, which no message carries, and the command that was the last to
 // change it. What a typed line does to it, apart from what is said.
+#![tactic(auto)]
+
 pub mod messages;
 mod senders;
 
