@@ -1,4 +1,6 @@
 // The print of a chart: a line for each total, put into one lent buffer.
+#![tactic(auto)]
+
 ghost use Rattle.std.specs.Prelude.{◌≡◌, ◌+◌, ◌<◌, ◌≤◌, length};
 ghost use Rattle.text.specs.Text.{Wrote};
 ghost use Rattle.charted.specs.Lines.{total_line, place_line, refused_lines, ring_lines, chart_lines};
@@ -49,10 +51,8 @@ fn ring_lines(out: &mut [u8; 65536], at: usize, table: [u64; 17]) -> usize
     ensures { (Wrote out.old at (ring_lines table) out.new result) × (result ≤ at + 600) }
 {
     let mut end = at;
-    let mut i: usize = 0;
-    while i < 15 {
+    for i in 0..15usize {
         end = place_line(out, end, b"rings", table, i + 2);
-        i += 1;
     }
     end
 }
