@@ -51,8 +51,10 @@ fn ring_lines(out: &mut [u8; 65536], at: usize, table: [u64; 17]) -> usize
     ensures { (Wrote out.old at (ring_lines table) out.new result) × (result ≤ at + 600) }
 {
     let mut end = at;
-    for i in 0..15usize {
+    let mut i: usize = 0;
+    while i < 15 {
         end = place_line(out, end, b"rings", table, i + 2);
+        i += 1;
     }
     end
 }

@@ -1,9 +1,8 @@
 -- `charted::total_line` meets its contract: its parts one after another. Assumes nothing.
-use Rattle.std.proofs.Common.{rules}
+use borrow.Author.Rules.{rules}
 use Rattle.text.proofs.Text.{wrote_as, wrote_then}
 use Rattle.charted.proofs.Lines.{total_parts}
 use Rattle.charted.proofs.total_line.Goals as goal
 
 pub returns : goal.returns
-returns c =
-    (wrote_as (total_parts _ _) (wrote_then (wrote_then (wrote_then c.word-named.ensures.0 c.put-spaced.ensures.0) c.total-counted.ensures.0) c.put.ensures.0), search rules)
+returns c = (wrote_as (total_parts _ _) (wrote_then (wrote_then (wrote_then c.word-named.ensures.0 c.put-spaced.ensures.0) c.total-counted.ensures.0) c.put.ensures.0), search rules)
