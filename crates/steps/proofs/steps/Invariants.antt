@@ -1,0 +1,10 @@
+-- Board and room are those after the commands passed.
+use Rattle.std.proofs.Common.{◌-◌, ◌≤◌}
+use Rattle.steps.proofs.Reaching.{Reached}
+use Rattle.steps.proofs.steps.Given as goal
+
+abbrev pub invariant-loop-i : goal.invariant-loop-i
+invariant-loop-i l = (l.i ≤ l.n) × Reached l.initial.b l.part l.initial.room l.i l.b l.room
+
+abbrev pub decreases-loop-i : goal.decreases-loop-i
+decreases-loop-i l = l.n - l.i
