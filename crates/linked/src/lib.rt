@@ -1,4 +1,6 @@
 // The sheet runner for C and Rust programs to link. A slice comes as a pointer and a length.
+#![tactic(auto)]
+
 ghost use Rattle.std.specs.Prelude.{◌≡◌};
 ghost use Rattle.rules.specs.Answers.{number};
 ghost use Rattle.rules.specs.Sheet.{run_sheet};

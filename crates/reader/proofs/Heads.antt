@@ -10,9 +10,10 @@ use lib.ListN.{length, drop, length-drop}
 use Rattle.rules.specs.Sheet.{field, homes_from, any_spare}
 use Rattle.rules.proofs.Sheet.{field_below}
 use Rattle.reader.specs.declared.Found.{Found}
-use Rattle.reader.specs.Place.{left_at, least, commands_within}
+use Rattle.reader.specs.Place.{left_at, least, within, commands_within}
 use Rattle.reader.specs.Found.{found_in}
 use Rattle.reader.proofs.Fields.{field_inside}
+use Rattle.reader.proofs.Places.{within_all}
 use Rattle.reader.proofs.Spared.{as_many}
 
 -- ---- the counts that a header of 16 bits stands for, and the bit after the homes
@@ -149,3 +150,29 @@ module _ (s : List ℕ) {h : ℕ} (e : h ≡ field s 0 16) where
       → j ≡ left_at (end_in h) → y ≡ field s (end_in h) j → z ≡ any_spare (drop ((end_in h + j) / 8) s) (commands_within (length s) (end_in h + j) 4096)
       → sheet_read h hp ho y j z ≡ found_in s
   found_is = found_parts s form_in nodes-in processes-in objects-in spare-in
+
+-- the pass itself: each part is read where the one before it ended, on the sheet s at all times
+pub pass_is : (s : List ℕ) {s0 s1 s2 s3 s4 hp ho : List ℕ} {a0 a1 a2 a3 a4 h j y : ℕ} {z : Bool} → s0 ≡ s → a0 ≡ 0
+    → h ≡ field s0 a0 (within a0 16) → s1 ≡ s0 → a1 ≡ a0 + within a0 16
+    → hp ≡ homes_from s1 a1 (within a1 (processes_in h)) → s2 ≡ s1 → a2 ≡ a1 + 3 * within a1 (processes_in h)
+    → ho ≡ homes_from s2 a2 (within a2 (objects_in h)) → s3 ≡ s2 → a3 ≡ a2 + 3 * within a2 (objects_in h)
+    → j ≡ left_at a3 → y ≡ field s3 a3 (within a3 j) → s4 ≡ s3 → a4 ≡ a3 + within a3 j
+    → z ≡ any_spare (drop (a4 / 8) s4) (commands_within (length s4) a4 4096)
+    → found (h / 512 / 8) (nodes_in h) (processes_in h) (objects_in h) (h % 2) hp ho y (a4 / 8) z ≡ found_in s
+pass_is s {s0} {s1} {s2} {s3} {s4} {hp} {ho} {a0} {a1} {a2} {a3} {a4} {h} {j} {y} {z} es ea eh es1 ea1 ehp es2 ea2 eho es3 ea3 ej ey es4 ea4 ez =
+    let w0 : within a0 16 ≡ 16 = within_all a0 16 (lit≤ tt) (omega arith) in
+    let at1 : a1 ≡ 16 = omega (arith, ea1, w0) in
+    let head : h ≡ field s 0 16 = cc in
+    let w1 : within a1 (processes_in h) ≡ processes_in h = within_all a1 (processes_in h) (count_few (h / 32)) (omega arith) in
+    let at2 : a2 ≡ 16 + 3 * processes_in h = ea2 ∙ rw (w1, at1) in
+    let w2 : within a2 (objects_in h) ≡ objects_in h = within_all a2 (objects_in h) (count_few (h / 2)) (omega arith) in
+    let at3 : a3 ≡ end_in h = ea3 ∙ rw (w2, at2) in
+    let left : j ≡ left_at (end_in h) = ej ∙ rw at3 in
+    let w3 : within a3 j ≡ j = within_all a3 j (left_few a3 ej) (omega arith) in
+    let at4 : a4 ≡ end_in h + j = ea4 ∙ rw (w3, at3) in
+    let first : hp ≡ homes_from s 16 (processes_in h) = cc in
+    let second : ho ≡ homes_from s (16 + 3 * processes_in h) (objects_in h) = cc in
+    let over : y ≡ field s (end_in h) j = cc in
+    let same : s4 ≡ s = cc in
+    let set : z ≡ any_spare (drop ((end_in h + j) / 8) s) (commands_within (length s) (end_in h + j) 4096) = ez ∙ rw (same, at4) in
+    rw at4 (found_is s head first second left over set)

@@ -4,7 +4,7 @@ use Prim.Native.Nat.{ℕ, zero}
 use mathlib.Core.Path.{refl}
 use mathlib.Core.List.{List, [], ◌∷◌}
 use seplogic.Ra.Ura.{Ura}
-use seplogic.Ra.TreeShare.{full_share}
+use base.Fraction.{full_share}
 use mir.Syntax.{Ty}
 use mir.Val.{Val}
 use base.Fml.{fat, fdies}

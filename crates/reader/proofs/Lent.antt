@@ -10,8 +10,8 @@ use mathlib.Core.Bool.{Bool}
 use mathlib.Core.List.{List, [], ◌∷◌}
 use lib.ListN.{length, drop as dropped}
 use seplogic.Ra.Ura.{Ura}
-use seplogic.Ra.TreeShare.PosShare
-use seplogic.Ra.TreeShare.{full_share}
+use base.Share
+use base.Fraction.{full_share}
 use mir.Syntax.{named, erased, w64}
 use mir.Val.{Val, vint, vptr}
 use base.Logic.{SProp, ent, sep, ex, guard, guard_i}
@@ -73,19 +73,19 @@ module _ {M : Type 1} {𝓤 : Ura M} (𝓛 : Logic 𝓤) (at_mem : Memory → SP
 
   -- what the callee's triple binds outside: the loan is for a ∷ κ, a being an atom of the call's own. `homes` and `commands` have the parameters of `read`
   abbrev pub to : ℕ → GName → Reader → ℕ → (Read 𝓛 at_mem run).Ghost
-  to a δ h n = (((a ∷ κ, (κ, tt)), (PosShare.left q, (PosShare.right q, tt)), (meet_⊑_right (a ∷ []) κ, tt), (ρ δ h, (n, tt)), (vptr l 0 ∷ [], (vint w64 n ∷ [], tt))), tt)
+  to a δ h n = (((a ∷ κ, (κ, tt)), (Share.left q, (Share.right q, tt)), (meet_⊑_right (a ∷ []) κ, tt), (ρ δ h, (n, tt)), (vptr l 0 ∷ [], (vint w64 n ∷ [], tt))), tt)
 
   -- a reading place in the local, what it owns, and the token
   abbrev pub Room : Reader → Item 𝓤
-  Room h = ‵ (fat full_share (T'.mir erased) l 0 (T'.lowered h)) ⊛ ‵ (B.own h (T'.lowered h ∷ [])) ⊛ ‵ (flft κ q)
+  Room h = ‵ (fat full_share (T'.mir erased) l 0 (T'.lowered h)) ⊛ ‵ (B.own_val h (T'.lowered h ∷ [])) ⊛ ‵ (flft κ q)
 
   -- what the lender keeps
   abbrev pub Aside : ℕ → GName → Item 𝓤
-  Aside a δ = ‵ (flent (a ∷ κ) (Body (mem B) l 0 δ)) ⊛ raw (Rest 𝓛 a (PosShare.left q))
+  Aside a δ = ‵ (flent (a ∷ κ) (Body (mem B) l 0 δ)) ⊛ raw (Rest 𝓛 a (Share.left q))
 
-  goes : (n : ℕ) → n < 2 ^ 64 → (a : ℕ) (δ : GName) (h : Reader) → ent 𝓤 (⋆ 𝓛 (‵ (flft (a ∷ κ) (PosShare.left q)) ∷ ‵ (flft κ (PosShare.right q)) ∷ ‵ ((MutRef (named 0) (a ∷ κ) B).own_val (ρ δ h) (vptr l 0 ∷ [])) ∷ [])) ((Read 𝓛 at_mem run).pre (to a δ h n))
+  goes : (n : ℕ) → n < 2 ^ 64 → (a : ℕ) (δ : GName) (h : Reader) → ent 𝓤 (⋆ 𝓛 (‵ (flft (a ∷ κ) (Share.left q)) ∷ ‵ (flft κ (Share.right q)) ∷ ‵ ((MutRef (named 0) (a ∷ κ) B).own_val (ρ δ h) (vptr l 0 ∷ [])) ∷ [])) ((Read 𝓛 at_mem run).pre (to a δ h n))
   goes n fits a δ h =
-      qed 𝓛 (‵ (flft (a ∷ κ) (PosShare.left q)) ∷ ‵ (flft κ (PosShare.right q)) ∷ ‵ ((MutRef (named 0) (a ∷ κ) B).own_val (ρ δ h) (vptr l 0 ∷ [])) ∷ []) ∵
+      qed 𝓛 (‵ (flft (a ∷ κ) (Share.left q)) ∷ ‵ (flft κ (Share.right q)) ∷ ‵ ((MutRef (named 0) (a ∷ κ) B).own_val (ρ δ h) (vptr l 0 ∷ [])) ∷ []) ∵
       nothing ! $ move ! (2 ∷ 0 ∷ []) $ join ! $ move ! (1 ∷ 0 ∷ []) $ join ! $ move ! (1 ∷ 0 ∷ []) $
       nothing ! $ owned ! usize (Is usize) (uint_Makes 𝓛 w64) n _ (refl, fits) $ fjoin ! $ move ! (1 ∷ 0 ∷ []) $ fjoin ! $ move ! (1 ∷ 0 ∷ []) $ join ! $ nothing ! $ move ! (1 ∷ 0 ∷ []) $ join ! $ done !
 
@@ -96,10 +96,10 @@ module _ {M : Type 1} {𝓤 : Ura M} (𝓛 : Logic 𝓤) (at_mem : Memory → SP
   unfolding part_of
   lends h n fits =
       qed 𝓛 (Room h ∷ []) ∵ updating ! $ split ! $ use1 𝓛 (‵ (cell_at full_share B.mir (T'.lowered h ∷ []) l 0)) (𝓛.laws.at_raw full_share (T'.mir erased) l 0 (T'.lowered h)) $
-      move ! (1 ∷ []) $ split ! $ move ! (2 ∷ 0 ∷ []) $ fjoin ! $ fpack ! (List Val) (λ vs. fsep (cell_at full_share B.mir vs l 0) (B.own h vs)) (T'.lowered h ∷ []) $
+      move ! (1 ∷ []) $ split ! $ move ! (2 ∷ 0 ∷ []) $ fjoin ! $ fpack ! (List Val) (λ vs. fsep (cell_at full_share B.mir vs l 0) (B.own_val h vs)) (T'.lowered h ∷ []) $
       -- [the reading place lies in l; the token]
-      lft_new ! tt (λ a. move ! (2 ∷ []) $ use1 𝓛 (‵ (flft κ (PosShare.left q)) ⊛ ‵ (flft κ (PosShare.right q))) (𝓛.lfts.lft_split κ q) $ split ! $
-      move ! (2 ∷ 0 ∷ []) $ use2 𝓛 (‵ (flft (a ∷ κ) (PosShare.left q)) ⊛ raw (Rest 𝓛 a (PosShare.left q))) (within_token 𝓛 a κ (PosShare.left q)) $ split ! $
+      lft_new ! tt (λ a. move ! (2 ∷ []) $ use1 𝓛 (‵ (flft κ (Share.left q)) ⊛ ‵ (flft κ (Share.right q))) (𝓛.lfts.lft_split κ q) $ split ! $
+      move ! (2 ∷ 0 ∷ []) $ use2 𝓛 (‵ (flft (a ∷ κ) (Share.left q)) ⊛ raw (Rest 𝓛 a (Share.left q))) (within_token 𝓛 a κ (Share.left q)) $ split ! $
       move ! (3 ∷ []) $ use1 𝓛 (later (some (λ (δ : GName). ‵ ((MutRef (named 0) (a ∷ κ) B).own_val (ρ δ h) (vptr l 0 ∷ [])) ⊛ ‵ (flent (a ∷ κ) (Body (mem B) l 0 δ))))) (lends_ref 𝓛 B (named 0) (a ∷ κ) h l 0) $ await ! tt $ pick ! (λ δ. split ! $
       -- [the reference; the lender's part; a ∷ κ's token; what is left of a's; κ's]
       at_once ! $ show ! (λ (a' : ℕ). ex 𝓤 (λ (δ' : GName). Lends h n a' δ')) a $ show ! (Lends h n a) δ $
@@ -118,18 +118,18 @@ module _ {M : Type 1} {𝓤 : Ura M} (𝓛 : Logic 𝓤) (at_mem : Memory → SP
 
     abbrev Gives : ℕ → GName → Val → Item 𝓤
     Gives a δ v =
-        later (some (λ (r : R.Denot). ((‵ (flft (a ∷ κ) (PosShare.left q)) ⊛ ‵ (flft κ (PosShare.right q)) ⊛ ‵ ftrue) ⊛ ‵ (R.own r (v ∷ [])))
+        later (some (λ (r : R.Denot). ((‵ (flft (a ∷ κ) (Share.left q)) ⊛ ‵ (flft κ (Share.right q)) ⊛ ‵ ftrue) ⊛ ‵ (R.own_val r (v ∷ [])))
         ⊛ some (λ (zs : Reader × (Unit {0} × Unit {0})). ‵ (lasts read.ended (a ∷ κ, (κ, tt)) (ρ δ h, (n, tt)) zs) ⊛ raw (fact 𝓤 (Said r zs.0)))))
 
     backs : (a : ℕ) (δ : GName) (v : Val) → ent 𝓤 (sep 𝓤 (mean 𝓛 (Gives a δ v)) (mean 𝓛 (Aside a δ))) (H.⇛ (ex 𝓤 (λ (r : R.Denot). guard 𝓤 (Known v r) (mean 𝓛 (Room (moved h m))))))
     unfolding part_of
     backs a δ v =
         qed 𝓛 (Gives a δ v ∷ Aside a δ ∷ []) ∵ updating ! $ await ! tt $ pick ! (λ r.
-        split ! $ move ! (1 ∷ []) $ pick ! (λ zs. split ! $ move ! (1 ∷ []) $ heard ! (Said r zs.0) (λ e. fsplit ! $
+        split ! $ move ! (1 ∷ []) $ pick ! (λ zs. split ! $ move ! (1 ∷ []) $ heard ! (Said r zs.0) (λ e. fsplit ! $ fsplit ! $ move ! (1 ∷ []) $ drop ! $
         rewrite ! 0 (λ (y : Reader). ‵ (fres δ (B.coded.code y))) (at_moved r zs.0 e) refl $
         -- [the last reading place; true; the tokens and the value; what the lender kept]
         move ! (2 ∷ []) $ split ! $ move ! (1 ∷ []) $ peeks ! R (Is R) (shows 𝓛 R) r (v ∷ []) (λ is. drop ! $
-        split ! $ move ! (4 ∷ []) $ split ! $ move ! (2 ∷ 1 ∷ []) $ use2 𝓛 (later (‵ (fdead (a ∷ κ)) ⊛ ‵ (flft κ (PosShare.left q)))) (within_end 𝓛 a κ (PosShare.left q)) $ await ! tt $ split ! $
+        split ! $ move ! (4 ∷ []) $ split ! $ move ! (2 ∷ 1 ∷ []) $ use2 𝓛 (later (‵ (fdead (a ∷ κ)) ⊛ ‵ (flft κ (Share.left q)))) (within_end 𝓛 a κ (Share.left q)) $ await ! tt $ split ! $
         -- [a ∷ κ has ended; κ's token, half; the lender's part; κ's token, the other half, and true; the last reading place; true]
         move ! (0 ∷ 2 ∷ 4 ∷ []) $ use3 𝓛 (later (‵ ((mem B).own_at (moved h m) l 0))) (ref_back 𝓛 B (a ∷ κ) δ (moved h m) l 0) $ await ! tt $
         move ! (2 ∷ []) $ split ! $ move ! (3 ∷ 0 ∷ []) $ use2 𝓛 (‵ (flft κ q)) (𝓛.lfts.lft_join κ q) $ move ! (2 ∷ []) $

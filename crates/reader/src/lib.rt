@@ -1,6 +1,8 @@
 // A sheet is read through one reading place, which moves on by the bits that are read: the sheet, and the bit that is read next.
 // The work is done on the sheet and a position, in the modules below; the functions over the reading place are thin.
 // Above them stand functions with plain parameters: the whole pass over a sheet, and what follows a bit.
+#![tactic(auto)]
+
 ghost use Rattle.std.specs.Prelude.{◌≡◌, ◌+◌, ◌*◌, ◌/◌, length, drop};
 ghost use Rattle.rules.specs.Sheet.{field, homes_from, any_spare};
 ghost use Rattle.reader.specs.Place.{within, commands_within, byte_up};

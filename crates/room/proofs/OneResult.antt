@@ -8,7 +8,7 @@ use prog.Memory.{Memory}
 use prog.Routine.{Routine}
 use types.Logic.{Logic}
 use contract.Monad.{Fun, fact}
-use denote.Ref.{Bor}
+use denote.Ref.{MutBor}
 use Rattle.rules.specs.declared.Board.{Board}
 use Rattle.rules.specs.declared.Command.{Command}
 use Rattle.rules.specs.declared.Answer.{Answer}
@@ -25,7 +25,7 @@ module _ {M : Type 1} {𝓤 : Ura M} (𝓛 : Logic 𝓤) (mem : Memory → SProp
   pub lent_says : (b : Board) (c : Command) (r : Stepped) → (step-lent.clauses 𝓛 mem run tt (b, (c, tt))).ensures tt r (b, (c, tt)) ≡ fact 𝓤 (ByValue b c r)
   lent_says b c r = refl
 
-  pub in_room_says : (κ : Lft) (room : Bor Board) (c : Command) (answer : Answer) (left : Bor Board) → (step_in.clauses 𝓛 mem run (κ, tt) (room, (c, tt))).ensures tt answer (left, (c, tt)) ≡ fact 𝓤 (InRoom room.now c answer left.now)
+  pub in_room_says : (κ : Lft) (room : MutBor Board) (c : Command) (answer : Answer) (left : MutBor Board) → (step_in.clauses 𝓛 mem run (κ, tt) (room, (c, tt))).ensures tt answer (left, (c, tt)) ≡ fact 𝓤 (InRoom room.now c answer left.now)
   in_room_says κ room c answer left = refl
 
 pub one_result : OneResult

@@ -4,7 +4,7 @@ use mathlib.Core.List.{[], ◌∷◌}
 use mathlib.Core.Option.{some}
 use Prim.Native.Nat.{ℕ}
 use seplogic.Ra.Ura.{Ura}
-use seplogic.Ra.TreeShare.{full_share}
+use base.Fraction.{full_share}
 use mir.Val.{Val, vstruct, vcons, vnil}
 use base.Fml.{Fml, fat}
 use prog.Memory.{field_of}

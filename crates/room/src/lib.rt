@@ -1,4 +1,6 @@
 // "The board is stepped in the room its owner lends, as well as by value; both give one result."
+#![tactic(auto)]
+
 ghost use Rattle.std.specs.Prelude.{◌≡◌};
 ghost use Rattle.rules.specs.Shape.{step};
 

@@ -1,5 +1,7 @@
 // Reads a packed sheet and runs it: its answer, which is the first refusal in the paper's order, the part of it that holds the commands,
 // and what all of its commands do to its opening.
+#![tactic(auto)]
+
 ghost use Rattle.std.specs.Prelude.{◌≡◌, []};
 ghost use Rattle.rules.specs.Commands.{zero_board};
 ghost use Rattle.rules.specs.Sheet.{reader_answer, commands_part, refused_run, run_sheet};

@@ -1,0 +1,7 @@
+-- `reader::command::sixteen` meets its contract: two whole bytes. Assumes nothing.
+use native.Mathlib.Omega.{arith}
+use Rattle.reader.proofs.Fields.{two_bytes}
+use Rattle.reader.proofs.command.sixteen.Goals as goal
+
+pub returns : goal.returns
+returns c = two_bytes c.args.s.now c.args.i (omega arith) (omega arith)
