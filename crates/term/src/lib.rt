@@ -1,4 +1,6 @@
 // The sheets of a term, taken in as a stream of pieces of any size: a chart by value, and a lent buffer that holds one sheet.
+#![tactic(auto)]
+
 ghost use Rattle.std.specs.Prelude.{◌≡◌, ◌+◌, ◌-◌, ◌<◌, ◌≤◌, eqb, length};
 ghost use Rattle.rules.specs.Tables.{pick};
 ghost use Rattle.text.specs.Text.{at_most, behind};
