@@ -11,7 +11,7 @@ loop-preserved g c =
     (search rules, known_more _ _ _ _ c.loop.invariant.1 c.feed-chart.ensures.0 c.feed-chart.ensures.1 c.read_some-got.ensures.bytes)
 
 pub returns-then-n-eq0-clause-pieces : goal.returns-then-n-eq0-clause-pieces
-returns-then-n-eq0-clause-pieces g c = known_taken _ _ (known_after _ _ _ _ c.loop.invariant.1 (search rules) c.read_some-got.ensures.bytes) c.over.ensures.chart
+returns-then-n-eq0-clause-pieces g c = known_taken _ _ (known_after _ _ _ _ _ c.loop.invariant.1 (search rules) c.read_some-got.ensures.bytes) c.over.ensures.chart
 
 pub returns-clause-pieces : goal.returns-clause-pieces
 returns-clause-pieces g c = known_taken _ _ c.loop.invariant.1 c.over-2.ensures.chart
