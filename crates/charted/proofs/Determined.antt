@@ -1,5 +1,5 @@
 -- The contract of `composed` determines the length of the text and every byte of the lent buffer.
-use mathlib.Core.Path.{◌≡◌, refl}
+use mathlib.Core.Path.{refl}
 use mathlib.Core.List.{List}
 use Prim.Native.Nat.{ℕ, ◌≤◌}
 use seplogic.Ra.Ura.{Ura}

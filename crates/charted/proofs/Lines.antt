@@ -1,5 +1,5 @@
 -- Laws of the lines of a chart: each by the parts that are put one after another. Assumes nothing.
-use mathlib.Core.Path.{◌≡◌, refl, sym, ◌∙◌}
+use mathlib.Core.Path.{◌≡◌, refl}
 use mathlib.Core.List.{List, [], ◌∷◌, ◌++◌, append_assoc, append-nil}
 use Prim.Native.Nat.{ℕ, ◌+◌}
 use lib.ListN.{get_or}

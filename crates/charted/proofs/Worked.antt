@@ -7,7 +7,6 @@ use Rattle.rules.specs.Book.{hold_in, rival, rivals, clear, place_in, joined, ah
 use Rattle.rules.specs.Lists.{listed, add_one, add_all, entry_done, started, along_leads, list_at_object, keeping, request_arrives}
 use Rattle.rules.specs.Board.{put_first, send, send_grants, load, tally, rings_of_length}
 use Rattle.rules.specs.Commands.{recording, requested, released, delivered, effect, answer_to, turn, draining, homes_of, opening}
-use Rattle.rules.specs.Shape.{holds_fit, row_fits, different, counts_fit, process_fits, object_fits, list_fits, no_list, message_fits, ring_fits, standing, in_shape, step, drain}
 use Rattle.rules.specs.Sheet.{field, homes_from, command_at, command_spare, board_after, room_after, reader_answer, commands_part, sheet_answer, run_sheet}
 use Rattle.text.specs.Text.{digits, decimal, after_spaces, spaced, line_of, flat, at_most}
 use Rattle.totals.specs.Stream.{sized, sheets_within, sheets_in}

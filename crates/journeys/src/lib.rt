@@ -1,4 +1,6 @@
 // One delivery in one line: what arrived, from where to where, and what was sent on, so that the journey of a list is seen.
+#![tactic(auto)]
+
 pub mod follow;
 
 use desk::Desk;

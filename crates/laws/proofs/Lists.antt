@@ -17,7 +17,7 @@ use Rattle.rules.specs.declared.Ring.{Ring}
 use Rattle.rules.specs.declared.Looked.{Looked}
 use Rattle.rules.specs.Tables.{among}
 use Rattle.rules.specs.Book.{mode_at, place_in, waited_for}
-use Rattle.rules.specs.Lists.{nothing, entry_at, lead_at, starter_of, asked_of, longer, add_all, with_next, to_home, entry_done, starter, started, list_at_home, along_leads, ring_of, no_ring, looking, list_at_object}
+use Rattle.rules.specs.Lists.{nothing, entry_at, lead_at, starter_of, asked_of, add_all, with_next, to_home, entry_done, starter, started, list_at_home, along_leads, ring_of, no_ring, looking, list_at_object}
 use Rattle.rules.specs.Waits.{Among, Different}
 use Rattle.rules.proofs.Tables.{among_at}
 use Rattle.rules.proofs.Book.{place_in_le}

@@ -22,7 +22,7 @@ use Rattle.rules.specs.declared.Board.{Board}
 use Rattle.rules.specs.Tables.{pick, either, all}
 use Rattle.rules.specs.Bits.{taken}
 use Rattle.rules.specs.Lists.{lead_at, no_entries, no_ring}
-use Rattle.rules.specs.Board.{no_process, no_object, no_flight, process_at, object_at, kind_at, list_at, ring_at, in_flight, is_message, load}
+use Rattle.rules.specs.Board.{no_process, no_object, no_flight, process_at, object_at, kind_at, list_at, ring_at, in_flight, is_message}
 use Rattle.rules.specs.Shape.{set_fits, holds_fit, row_fits, different, count_fits, counts_fit, up_to, wait_fits, process_fits, object_fits, lead_fits, list_fits, no_list, kind_fits, same, message_fits, ring_fits, standing, in_shape}
 use Rattle.rules.specs.Ranges.{ListRanged, KindRanged, WaitRanged, Ranged}
 use Rattle.rules.proofs.Bits.{taken_zero, taken_below}

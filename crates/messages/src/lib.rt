@@ -1,4 +1,6 @@
 // A message in words: its kind, what it carries, and its way.
+#![tactic(auto)]
+
 use desk::Desk;
 use desk::messages::arrives_at;
 use rules::{Board, Entries, Kind};

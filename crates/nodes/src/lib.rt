@@ -1,4 +1,6 @@
 // The board as a class should see it: what each node can know from its own books.
+#![tactic(auto)]
+
 use rules::{Board, Object, Process, Wait};
 use values::bits::{has, lowest, wide, with};
 use words::{clause, digit, either, items, members, row, say, size, text, text_if, word};

@@ -1,15 +1,14 @@
 -- Laws of the lines: each by the parts that are put one after another, and the sides and lines of a board by one more of them.
 -- Assumes nothing.
 use mathlib.Core.Path.{◌≡◌, refl, sym, ap, ◌∙◌}
-use mathlib.Core.Bool.{Bool, true, false}
-use mathlib.Core.Option.{none, some}
+use mathlib.Core.Bool.{true, false}
 use mathlib.Core.List.{List, [], ◌∷◌, ◌++◌, append_assoc, append-nil}
-use Prim.Native.Nat.{ℕ, zero, suc, ◌+◌}
+use Prim.Native.Nat.{ℕ, ◌+◌}
 use native.Mathlib.Numerals.{add-one}
 use lib.Dec.{eqb}
 use lib.ListN.{get_or, replicate}
 use Rattle.rules.specs.declared.Ran.{Ran}
-use Rattle.rules.specs.Answers.{number, done}
+use Rattle.rules.specs.Answers.{number}
 use Rattle.rules.specs.Sheet.{run_sheet}
 use borrow.Author.Tests.{eq-eqb, ne_eqb}
 use Rattle.rules.specs.declared.Mode.{Mode}
@@ -17,7 +16,7 @@ use Rattle.rules.specs.declared.Mode.TheVariants.{Shared, Exclusive}
 use Rattle.rules.specs.declared.Object.{Object}
 use Rattle.rules.specs.declared.Ring.{Ring}
 use Rattle.rules.specs.declared.Board.{Board}
-use Rattle.rules.specs.Tables.{pick, rows, count_of}
+use Rattle.rules.specs.Tables.{rows, count_of}
 use Rattle.rules.specs.Bits.{taken}
 use Rattle.rules.specs.Book.{hold_in, holder_at, who_at, mode_at}
 use Rattle.rules.specs.Board.{object_at, ring_at, in_flight, tally}

@@ -1,4 +1,4 @@
--- Laws that the proofs of the reading place share.
+-- Laws of the reading place: what is read at a bit, the sheet as a whole, and a place that is held or lent.
 pub mod Fields
 pub mod Places
 pub mod Spared

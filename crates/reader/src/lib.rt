@@ -13,7 +13,7 @@ mod field;
 mod row;
 mod whole;
 
-#[derive(Drop)]
+#[derive(Clone, Copy)]
 pub struct Reader<'a> {
     pub sheet: &'a [u8],
     pub at: usize,

@@ -1,5 +1,7 @@
 // What is answered to a typed line, in words: the answers of a board, a command in its long form, what is wrong with a line that is not
 // understood, and the help.
+#![tactic(auto)]
+
 pub mod fault;
 pub mod help;
 mod verb;

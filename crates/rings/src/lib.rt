@@ -1,4 +1,6 @@
 // The rings of a board, in words: those that lists have recorded, and those that exist now, which only the whole board shows.
+#![tactic(auto)]
+
 mod exists;
 mod turns;
 

@@ -1,5 +1,6 @@
 // The board's types: books, messages, lists, rings, commands and answers.
 // There is no function here. What the commands do to a board is defined in specs/, a sentence of the paper beside each rule.
+#![tactic(auto)]
 
 #[derive(Clone, Copy)]
 pub enum Mode {

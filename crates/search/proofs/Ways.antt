@@ -15,7 +15,6 @@ use borrow.Author.Tests.{eqb-true, eq-eqb, lt-ltb, le-ltb, leb-true, le-leb}
 use Rattle.rules.specs.Waits.{Among, Different}
 use Rattle.rules.specs.Lists.{ring_of, no_ring}
 use Rattle.rules.proofs.Tables.{both, both_left, both_right, true_not_false, not_passed}
-use Rattle.search.specs.Numbers.{first, any}
 use Rattle.search.specs.Ways.{comes, next, way, round, shortest}
 use Rattle.search.proofs.Numbers.{first_passes, first_before, first_some, any_is, is_any, first_ext, any_ext}
 

@@ -1,15 +1,14 @@
 -- The clauses of a board in shape: any that fails refuses it, and all of them with a load of at most 64 are its shape. Assumes nothing.
-use mathlib.Core.Path.{◌≡◌, refl, sym, ap, ◌∙◌}
+use mathlib.Core.Path.{◌≡◌, refl}
 use mathlib.Core.Bool.{Bool, true, false, ◌&&◌}
-use Prim.Native.Nat.{ℕ, ◌≤◌, ◌<◌}
-use native.Mathlib.Omega.{arith}
+use Prim.Native.Nat.{◌≤◌, ◌<◌}
 use lib.Dec.{leb}
-use borrow.Author.Tests.{le-leb, lt-leb, leb-true}
+use borrow.Author.Tests.{le-leb, lt-leb}
 use Rattle.rules.specs.declared.Board.{Board}
-use Rattle.rules.specs.Tables.{pick, all}
+use Rattle.rules.specs.Tables.{all}
 use Rattle.rules.specs.Board.{process_at, object_at, ring_at, load}
 use Rattle.rules.specs.Shape.{counts_fit, up_to, process_fits, object_fits, message_fits, ring_fits, standing, in_shape}
-use Rattle.rules.proofs.Tables.{both, both_right, by_test}
+use Rattle.rules.proofs.Tables.{both_right, by_test}
 use Rattle.shape.specs.Load.{load_in_shape}
 
 left : (a b : Bool) → a ≡ false → a && b ≡ false

@@ -1,4 +1,6 @@
 // What came of a whole line, in words: the answer of the board and what moved, how far a drain came, or what was asked to be shown.
+#![tactic(auto)]
+
 use desk::messages::sent;
 use desk::{Acted, Desk};
 use replies::answer;

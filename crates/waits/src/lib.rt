@@ -1,5 +1,7 @@
 // Who waits for whom, why, and at which node: each wait stands in a line, and the home of the object has the line. Only lines count, not
 // requests still travelling. Whom a process waits for is asked of the tests that the handlers themselves go by.
+#![tactic(auto)]
+
 ghost use Rattle.std.specs.Prelude.{◌<◌, ◌≤◌};
 
 use rules::{Board, Mode, Object};

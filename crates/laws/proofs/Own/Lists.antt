@@ -40,7 +40,7 @@ use Rattle.rules.proofs.Book.{joined_count, joined_who, joined_mode}
 use Rattle.rules.proofs.Lists.{add_all_grown, started_first}
 use Rattle.rules.proofs.Load.{freed_same, freed_other}
 use Rattle.laws.specs.Shape.{Sized, KindShaped}
-use Rattle.laws.specs.Own.{message_at, is_list_kind, Starts, Goes, stays, from_home, from_object, records}
+use Rattle.laws.specs.Own.{message_at, is_list_kind, Starts, Goes, stays, from_home, from_object}
 use Rattle.laws.proofs.Tables.{by_pick}
 use Rattle.laws.proofs.Local.{send_untouched}
 use Rattle.laws.proofs.Kept.{Good, good, deliver_below, Did, refused, accepted, did}

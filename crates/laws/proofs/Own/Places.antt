@@ -17,7 +17,7 @@ use Rattle.rules.specs.declared.Board.{Board}
 use Rattle.rules.specs.declared.Command.{Command}
 use Rattle.rules.specs.declared.Command.TheVariants as Do
 use Rattle.rules.specs.Book.{release_arrives}
-use Rattle.rules.specs.Lists.{no_ring, plain, starter_of, asked_of, starter, list_at_home, list_at_object, keeping, request_arrives}
+use Rattle.rules.specs.Lists.{no_ring, plain, starter_of, asked_of, list_at_home, list_at_object, keeping, request_arrives}
 use Rattle.rules.specs.Board.{process_at, object_at, kind_at, list_at, ring_at, put_object, freed, send, send_grants}
 use Rattle.rules.specs.Commands.{recording, arriving, mode_of, requested, released, delivered, effect}
 use Rattle.rules.specs.Shape.{step}

@@ -1,7 +1,6 @@
 -- `is_ahead` meets its contract. The loop's invariant: the process is not among those who bar at the first i places.
 use mathlib.Core.Path.{◌≡◌, refl, sym, ◌∙◌}
 use native.Mathlib.Omega.{arith}
-use mathlib.Core.Bool.{false}
 use Rattle.rules.specs.Tables.{among, collect}
 use Rattle.rules.specs.Book.{bars, who_at, ahead}
 use Rattle.rules.proofs.Tables.{is_among, collects}

@@ -1,5 +1,5 @@
 -- `steps::run` meets its contract: the sheet without its commands opens the board, and the commands are stepped on it. Assumes nothing.
-use Rattle.std.proofs.Common.{arith}
+use native.Mathlib.Omega.{arith}
 use Rattle.steps.proofs.Shorter.{part_shorter}
 use Rattle.steps.proofs.Reaching.{whole_sheet}
 use Rattle.steps.proofs.run.Goals as goal
@@ -8,4 +8,6 @@ pub overflow_sub-start : goal.overflow_sub-start
 overflow_sub-start c = omega (arith, part_shorter c.args.s.now c.commands-part.ensures)
 
 pub returns : goal.returns
-returns c = whole_sheet c.args.s.now c.args.room.now c.commands-part.ensures c.count-n.ensures c.run-opened.ensures.0 c.steps-last.ensures
+returns c =
+    let a = c.args in
+    whole_sheet a.s.now a.room.now c.commands-part.ensures c.count-n.ensures c.run-opened.ensures.0 c.steps-last.ensures

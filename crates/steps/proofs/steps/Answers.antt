@@ -1,5 +1,6 @@
--- `steps::steps` meets its contract. Assumes nothing.
-use Rattle.std.proofs.Common.{refl, rules}
+-- `steps::steps` meets its contract. The invariant: board and room are those after the commands passed. Assumes nothing.
+use mathlib.Core.Path.{refl}
+use borrow.Author.Rules.{rules}
 use Rattle.steps.specs.BySteps.{board_by_steps, room_by_steps}
 use Rattle.steps.proofs.Reaching.{one_more}
 use Rattle.steps.proofs.steps.Goals as goal
@@ -9,7 +10,7 @@ unfolding board_by_steps room_by_steps
 loop-i-init c = (search rules, (refl, refl))
 
 pub loop-i-preserved : goal.loop-i-preserved
-loop-i-preserved c = (
-  search rules,
-  one_more c.args.opened c.args.part.now c.args.room.now c.loop-i.i c.loop-i.invariant.1 c.command_at.ensures c.step-stepped.ensures c.number.ensures,
-)
+loop-i-preserved c =
+    let a = c.args in
+    let l = c.loop-i in
+    (search rules, one_more a.opened a.part.now a.room.now l.i l.invariant.1 c.command_at.ensures c.step-stepped.ensures c.number.ensures)

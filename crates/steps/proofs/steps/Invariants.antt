@@ -1,5 +1,5 @@
--- Board and room are those after the commands passed.
-use Rattle.std.proofs.Common.{◌-◌, ◌≤◌}
+-- `steps::steps` meets its contract. The invariant: board and room are those after the commands passed. Assumes nothing.
+use Prim.Native.Nat.{◌-◌, ◌≤◌}
 use Rattle.steps.proofs.Reaching.{Reached}
 use Rattle.steps.proofs.steps.Given as goal
 

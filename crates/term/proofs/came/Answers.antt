@@ -1,9 +1,12 @@
 -- Too long, or the run of what the buffer holds. Assumes nothing.
-use Rattle.std.proofs.Common.{ℕ, List, sym, ap, ◌∙◌, rules}
+use mathlib.Core.Path.{sym, ap, ◌∙◌}
+use mathlib.Core.List.{List}
+use Prim.Native.Nat.{ℕ}
 use lib.ListN.{replicate}
 use Rattle.rules.specs.Sheet.{run_sheet}
 use Rattle.totals.specs.Totals.{ran_to, came}
 use Rattle.term.proofs.Laws.{sized_long, sized_whole}
+use borrow.Author.Rules.{rules}
 use Rattle.term.proofs.came.Goals as goal
 
 pub returns-then-held-gt8206 : goal.returns-then-held-gt8206
@@ -13,5 +16,6 @@ returns-then-held-gt8206 c = c.refused_as.ensures ∙ ap came (sym (sized_long c
 pub returns : goal.returns
 unfolding came
 returns c =
+    let a = c.args in
     ap ran_to (c.run-ran.ensures.0 ∙ ap (λ (s : List ℕ). (run_sheet s (replicate 4096 0)).ran) c.start.ensures)
-    ∙ ap came (sym (sized_whole c.args.held c.args.sheet.now (search rules)))
+    ∙ ap came (sym (sized_whole a.held a.sheet.now (search rules)))

@@ -1,6 +1,7 @@
 -- Up to one more than the buffer holds. Assumes nothing.
-use Rattle.std.proofs.Common.{◌+◌, arith}
 use Rattle.text.proofs.Text.{at_most_top}
+use native.Mathlib.Omega.{arith}
+use Prim.Native.Nat.{◌+◌}
 use Rattle.term.proofs.come.Goals as goal
 
 pub returns-then-held-ge8207 : goal.returns-then-held-ge8207

@@ -1,5 +1,5 @@
 -- A sheet that the stream ended in is counted as cut off. Assumes nothing.
-use Rattle.std.proofs.Common.{ap, ◌∙◌}
+use mathlib.Core.Path.{ap, ◌∙◌}
 use Rattle.totals.specs.Totals.{came, noted}
 use Rattle.term.specs.Feed.{closed, end_at}
 use Rattle.term.proofs.Laws.{ended_at}
@@ -12,16 +12,14 @@ returns-in-Between c = c.closed.ensures ∙ ended_at c.args.c _ c.in-Between.is
 pub returns-in-Length : goal.returns-in-Length
 unfolding end_at came
 returns-in-Length c =
-    c.closed-in-Length.ensures
-    ∙ ap closed (c.noted.ensures ∙ ap (noted c.args.c.totals) c.refused_as.ensures)
-    ∙ ended_at c.args.c _ c.in-Length.is
+    let t = c.args.c.totals in
+    c.closed-in-Length.ensures ∙ ap closed (c.noted.ensures ∙ ap (noted t) c.refused_as.ensures) ∙ ended_at c.args.c _ c.in-Length.is
 
 pub returns-in-Inside : goal.returns-in-Inside
 unfolding end_at came
 returns-in-Inside c =
-    c.closed-in-Inside.ensures
-    ∙ ap closed (c.noted-in-Inside.ensures ∙ ap (noted c.args.c.totals) c.refused_as-in-Inside.ensures)
-    ∙ ended_at c.args.c _ c.in-Inside.is
+    let t = c.args.c.totals in
+    c.closed-in-Inside.ensures ∙ ap closed (c.noted-in-Inside.ensures ∙ ap (noted t) c.refused_as-in-Inside.ensures) ∙ ended_at c.args.c _ c.in-Inside.is
 
 pub returns-in-Ended : goal.returns-in-Ended
 unfolding end_at

@@ -1,13 +1,26 @@
 -- What is to come is taken in as it was. Assumes nothing.
-use Rattle.std.proofs.Common.{◌+◌, ◌-◌, ℕ, List, length, drop, sym, ap, ◌∙◌, rules, arith}
-use lib.ListN.{drop_of_length-le}
+use mathlib.Core.Path.{◌≡◌, refl, sym, ap, ◌∙◌}
+use mathlib.Core.Bool.{Bool, true, false, not}
+use mathlib.Core.List.{List}
+use native.Mathlib.Omega.{arith}
+use lib.ListN.{length, drop, drop_of_length-le}
 use Rattle.totals.specs.declared.Totals.{Totals}
 use Rattle.totals.specs.Stream.{sized}
 use Rattle.totals.specs.Totals.{came, noted}
 use Rattle.term.specs.declared.Place.TheVariants.{Between}
 use Rattle.term.specs.Feed.{Fed, at, fed}
 use Rattle.term.proofs.Laws.{settled_whole, settled_not, span, part_length, fed_part}
+use borrow.Author.Rules.{rules}
+use Prim.Native.Nat.{ℕ, ◌+◌, ◌-◌}
 use Rattle.term.proofs.feed.Goals as goal
+
+not_yes : (x : Bool) → not x ≡ true → x ≡ false
+not_yes true e = sym e
+not_yes false e = refl
+
+not-no : (x : Bool) → not x ≡ false → x ≡ true
+not-no true e = refl
+not-no false e = sym e
 
 pub moved-place-requires : goal.moved-place-requires
 moved-place-requires c =
@@ -35,10 +48,10 @@ loop-i-preserved-then-not-is_whole c =
     let m = c.at_most-n in
     let d = c.moved-place in
     let rest : List ℕ = drop (v.i + m.result) l in (
-      omega (arith, m.ensures.1),
+      search rules,
       v.invariant.1
           ∙ fed_part v.i m.result l m.ensures.1 (at v.t v.place v.sheet)
-          ∙ ap (λ (f : Fed). fed f rest) (d.ensures v.t ∙ settled_not v.t d.result d.new.sheet (sym c.is_whole.ensures ∙ c.if-not-is_whole.true)),
+          ∙ ap (λ (f : Fed). fed f rest) (d.ensures v.t ∙ settled_not v.t d.result d.new.sheet (sym c.is_whole.ensures ∙ not_yes c.is_whole.result (ap not c.if-not-is_whole.true))),
     )
 
 pub loop-i-smaller : goal.loop-i-smaller
@@ -57,11 +70,11 @@ loop-i-preserved c =
     let m = c.at_most-n in
     let d = c.moved-place in
     let rest : List ℕ = drop (v.i + m.result) l in (
-      omega (arith, m.ensures.1),
+      search rules,
       v.invariant.1
           ∙ fed_part v.i m.result l m.ensures.1 (at v.t v.place v.sheet)
           ∙ ap (λ (f : Fed). fed f rest) (d.ensures v.t
-          ∙ settled_whole v.t d.result d.new.sheet (sym c.is_whole.ensures ∙ c.if-not-is_whole.false)
+          ∙ settled_whole v.t d.result d.new.sheet (sym c.is_whole.ensures ∙ not-no c.is_whole.result (ap not c.if-not-is_whole.false))
           ∙ ap (λ (x : Totals). at x Between d.new.sheet) (sym (c.noted-t.ensures ∙ ap (noted v.t) (c.came.ensures ∙ ap (λ (n : ℕ). came (sized n d.new.sheet)) c.held_in.ensures)))),
     )
 

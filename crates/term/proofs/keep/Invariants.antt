@@ -1,6 +1,7 @@
--- The bytes that were passed stand there.
-use Rattle.std.proofs.Common.{◌+◌, ◌-◌, ◌≤◌, length, take}
+-- The bytes that there is room for stand there. Assumes nothing.
+use lib.ListN.{length, take}
 use Rattle.text.specs.Text.{Wrote}
+use Prim.Native.Nat.{◌+◌, ◌≤◌, ◌-◌}
 use Rattle.term.proofs.keep.Given as goal
 
 abbrev pub invariant-loop-i : goal.invariant-loop-i

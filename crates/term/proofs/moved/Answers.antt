@@ -1,11 +1,16 @@
 -- By the place. Assumes nothing.
-use Rattle.std.proofs.Common.{ℕ, sym, ap, ◌∙◌, rules, arith}
+use mathlib.Core.Path.{sym, ap, ◌∙◌}
+use Prim.Native.Nat.{ℕ}
+use native.Mathlib.Omega.{arith}
 use Rattle.term.specs.Feed.{onward}
 use Rattle.term.proofs.Laws.{moved_between, moved_length, moved_inside, moved_ended}
+use borrow.Author.Rules.{rules}
 use Rattle.term.proofs.moved.Goals as goal
 
 pub returns-in-Between : goal.returns-in-Between
-returns-in-Between c = λ t. moved_between t c.args.place c.args.sheet.now c.args.bytes.now c.in-Between.is (search rules) (search rules)
+returns-in-Between c =
+    let a = c.args in
+    λ t. moved_between t a.place a.sheet.now a.bytes.now c.in-Between.is (search rules) (search rules)
 
 pub returns-in-Length : goal.returns-in-Length
 returns-in-Length c =
@@ -20,4 +25,6 @@ returns-in-Inside c =
     ∙ (λ i. onward t (sym c.come.ensures i) (sym c.to_come.ensures i) (sym c.keep.ensures i))
 
 pub returns-in-Ended : goal.returns-in-Ended
-returns-in-Ended c = λ t. moved_ended t c.args.place c.args.sheet.now c.args.bytes.now c.in-Ended.is
+returns-in-Ended c =
+    let a = c.args in
+    λ t. moved_ended t a.place a.sheet.now a.bytes.now c.in-Ended.is

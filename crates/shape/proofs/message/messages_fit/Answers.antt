@@ -3,7 +3,7 @@ use borrow.Author.Rules.{rules}
 use Prim.Native.Nat.{ℕ}
 use mathlib.Core.Path.{◌≡◌, refl, ◌∙◌, ap}
 use native.Mathlib.Omega.{arith}
-use mathlib.Core.Bool.{true, ◌&&◌, not}
+use mathlib.Core.Bool.{◌&&◌, not}
 use lib.ListN.{length, get_or}
 use Rattle.rules.specs.Tables.{all}
 use Rattle.sums.proofs.Sums.{length_mapped}

@@ -1,6 +1,6 @@
 -- `values::homes::home_outside` meets its contract. The invariant: each home passed is below the count of nodes. Assumes nothing.
 use mathlib.Core.Path.{refl, sym, ap}
-use mathlib.Core.Bool.{true, not}
+use mathlib.Core.Bool.{not}
 use lib.Dec.{ltb}
 use lib.ListN.{get_or}
 use native.Mathlib.Omega.{arith}
