@@ -10,7 +10,7 @@ use borrow.Author.Tests.{lt-ltb, le-ltb}
 use Rattle.text.specs.Text.{at_most, written, behind}
 use Rattle.text.proofs.Text.{at_most_below, at_most_top, written_parts, behind_length}
 use Rattle.totals.specs.declared.Totals.{Totals}
-use Rattle.totals.specs.Stream.{Sheet, whole, cut, buffer, length_of, sized, sheets_within, sheets_in}
+use Rattle.totals.specs.Stream.{Sheet, whole, long, cut, buffer, length_of, sized, sheets_within, sheets_in}
 use Rattle.totals.specs.Totals.{totals_of}
 use Rattle.term.specs.declared.Place.TheVariants.{Between}
 use Rattle.term.specs.Feed.{Fed, at, counted, onward, byte, fed, end_at, ended}
