@@ -78,6 +78,10 @@ pub pieces_taken : PiecesTaken
 pieces_taken old w buffer n size none = taken_none old
 pieces_taken old w buffer n size (one {w = v} {buffer = before} {n = m} r p) = taken_more before v p m (pieces_length old v before m r ∙ size) (pieces_taken old v before m size r)
 
+-- some pieces were taken in, and one more
+pub some_more : (old buffer p : List ℕ) (n : ℕ) {after : List ℕ} {m : ℕ} → ((w : List ℕ) × Pieces old w buffer n) → after ≡ behind 65536 buffer n p → m ≡ n + length p → ((w : List ℕ) × Pieces old w after m)
+some_more old buffer p n t e f = rw (e, f) (t.0 ++ p, one t.1 p)
+
 pub as_long : (buffer p : List ℕ) (n : ℕ) {after : List ℕ} → length buffer ≡ 65536 → after ≡ behind 65536 buffer n p → length after ≡ 65536
 as_long buffer p n size e = rw e (behind_length 65536 buffer n p ∙ size)
 

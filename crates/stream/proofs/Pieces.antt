@@ -29,6 +29,10 @@ one_more p {chart} {after} {sheet} {held} s e f = record {
   is = ap₂ beside e f ∙ ap (λ (x : Fed). fed x p) s.is ∙ sym (fed_append start s.stream p);
 }
 
+pub taken_in : {chart handed : Chart} {sheet : List ℕ} → SoFar chart sheet → handed ≡ chart → ((w : List ℕ) × (handed ≡ chart_of w))
+unfolding chart_of
+taken_in s e = (s.stream, e ∙ ap (λ (f : Fed). f.chart) s.is)
+
 -- ---- the same, of a reader: what it had, and what it has left
 abbrev pub Known : Chart → List ℕ → Option (List ℕ) → Option (List ℕ) → Type 0
 Known chart sheet a b = (s : SoFar chart sheet) × Consumes a b s.stream
