@@ -32,7 +32,7 @@ pub record Sent (before after freed r : ℕ) : Type 0 where
 
 -- ---- the senders
 abbrev pub sender : Bool → ℕ → ℕ → ℕ
-sender isNew node other = pick isNew node other
+sender is_new node other = pick is_new node other
 
 -- the senders, where those of a set are one node
 abbrev pub marked_at : List ℕ → ℕ → ℕ → ℕ → ℕ

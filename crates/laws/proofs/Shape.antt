@@ -350,8 +350,8 @@ tested b h =
     (both _ _ (all_from 16 _ (λ p l. le-leb _ 1 (h.standing p l))) (le-leb _ 64 h.load))))))
 
 -- ---- sizes and ranges
-upTo-le : (k c n : ℕ) → up_to k c n ≤ n
-upTo-le k c n = by_pick (λ (x : ℕ). x ≤ n) (ltb k c) (λ e. omega arith) (λ e. omega arith)
+up_to_le : (k c n : ℕ) → up_to k c n ≤ n
+up_to_le k c n = by_pick (λ (x : ℕ). x ≤ n) (ltb k c) (λ e. omega arith) (λ e. omega arith)
 
 row_small : (l : List ℕ) (n c : ℕ) → c ≤ 16 → Row l n c → (k : ℕ) → get_or l k 0 < 16
 row_small l n c h r k = elim (dec_lt k n) [ yes z ↦ omega (arith, r.used k z) | no z ↦ omega (arith, r.rest k (omega arith)) ]
@@ -401,8 +401,8 @@ shaped_ranged b s h =
       rings = s.rings;
       count_of_processes = ps;
       count_of_objects = os;
-      waits = λ p. wait_small (process_at b p).wait _ (omega (arith, upTo-le p pc oc)) (h.processes p).wait;
-      lines = λ o. record { size = s.line o; count = (h.objects o).count; who = row_small _ _ _ (omega (arith, upTo-le o oc pc)) (h.objects o).line };
+      waits = λ p. wait_small (process_at b p).wait _ (omega (arith, up_to_le p pc oc)) (h.processes p).wait;
+      lines = λ o. record { size = s.line o; count = (h.objects o).count; who = row_small _ _ _ (omega (arith, up_to_le o oc pc)) (h.objects o).line };
       kinds = λ n. kind_small (kind_at b n) (list_at b n) pc oc ps os (h.messages n);
       entries = λ n. entries_small (list_at b n) pc ps (s.who n) (s.leads n) (kind_at b n) oc (h.messages n);
     }

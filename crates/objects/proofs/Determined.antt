@@ -18,7 +18,7 @@ use Rattle.objects.specs.Sets.{SetOf}
 use Rattle.objects.specs.contracts.rivals as rivals
 use Rattle.objects.specs.contracts.is_clear as is-clear
 use Rattle.objects.specs.contracts.mode_at as mode-at
-use Rattle.objects.specs.contracts.place_in as IsPlace-in
+use Rattle.objects.specs.contracts.place_in as place-in
 use Rattle.objects.specs.contracts.bars as bars
 use Rattle.objects.specs.contracts.hold as hold
 use Rattle.objects.specs.contracts.strike as strike
@@ -39,7 +39,7 @@ module _ {M : Type 1} {𝓤 : Ura M} (𝓛 : Logic 𝓤) (mem : Memory → SProp
   pub mode_at_determined : Determined mode-at.ended (mode-at.clauses 𝓛 mem run) (λ κs r e. r)
   mode_at_determined = by_equation (λ κs a. Book.mode_at a.0 a.1.0) (λ κs a g r e. refl)
 
-  pub place_in_determined : Determined IsPlace-in.ended (IsPlace-in.clauses 𝓛 mem run) (λ κs r e. r)
+  pub place_in_determined : Determined place-in.ended (place-in.clauses 𝓛 mem run) (λ κs r e. r)
   place_in_determined = by_equation (λ κs a. Book.place_in a.0 a.1.0) (λ κs a g r e. refl)
 
   pub bars_determined : Determined bars.ended (bars.clauses 𝓛 mem run) (λ κs r e. r)

@@ -54,5 +54,5 @@ module _ (w : List ℕ) {l s a : Bool}
     (long : w ≡ bytes "--help" → l ≡ true) (short : w ≡ bytes "-h" → s ≡ true) (alone : w ≡ bytes "-" → a ≡ true) where
   pub any_other : l ≡ false → s ≡ false → a ≡ false → (d : Bool) → d ≡ dashed w → pick d Unknown File ≡ argument_of w
   unfolding argument_of
-  any_other not-long not_IsShort not-alone d e =
-      rw (e, is_not w _ l long not-long, is_not w _ s short not_IsShort, is_not w _ a alone not-alone)
+  any_other not-long not-short not-alone d e =
+      rw (e, is_not w _ l long not-long, is_not w _ s short not-short, is_not w _ a alone not-alone)

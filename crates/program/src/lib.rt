@@ -109,7 +109,7 @@ fn standard_input<R: Files + Input>(rt: &R) -> Source<R::Reader, R::File> {
     }
 }
 
-// The file that has this name. A name that is no text (UTF-8) names no file here: it is told as one that is not there would be.
+// The file that has this name. A name that is no text (UTF-8) names no file here: it is told that the name is not one.
 pub fn file_of<R: Files>(rt: &R, name: &[u8]) -> Result<R::File> {
     match str::from_utf8(name) {
         Ok(path) => fs::open(rt, path),

@@ -23,7 +23,7 @@ use Rattle.reader.specs.contracts.homes as homes
 use Rattle.reader.specs.contracts.rest as rest
 use Rattle.reader.specs.contracts.commands as commands
 use Rattle.reader.specs.contracts.read_sheet as read-sheet
-use Rattle.reader.specs.contracts.rest_from as Rest-from
+use Rattle.reader.specs.contracts.rest_from as rest-from
 
 -- what is read, the sheet, and where the reading place stands then
 moved : {M : Type 1} {𝓤 : Ura M} {T : Ended} {c : Clauses 𝓤 T} {R S L : Type 0} {view : View T (R × S × L)} (x : Given T R) (y : Given T S) (z : Given T L)
@@ -51,5 +51,5 @@ module _ {M : Type 1} {𝓤 : Ura M} (𝓛 : Logic 𝓤) (mem : Memory → SProp
   pub read_sheet_determined : Determined read-sheet.ended (read-sheet.clauses 𝓛 mem run) (λ κs r e. r)
   read_sheet_determined = by_equation (λ κs a. Found.found_in a.0.now) (λ κs a g r e. refl)
 
-  pub rest_from_determined : Determined Rest-from.ended (Rest-from.clauses 𝓛 mem run) (λ κs r e. r.now)
+  pub rest_from_determined : Determined rest-from.ended (rest-from.clauses 𝓛 mem run) (λ κs r e. r.now)
   rest_from_determined = by_equation (λ κs a. drop (Place.byte_up a.1.0) a.0.now) (λ κs a g r e. refl)

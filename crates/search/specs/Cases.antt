@@ -21,8 +21,8 @@ abbrev ran_in_full : Board
 ran_in_full = (run_sheet in_full (replicate 16 99)).ran.board
 
 -- p0 shared on a; p1 exclusive in line on a; p2 holds b and is in line, shared, on a; p0 asks exclusive for b
-abbrev through_aLine : Board
-through_aLine = (outcome small_board (does (Request 0 0 0) ∷ drains ∷ does (Request 1 0 1) ∷ drains ∷ does (Request 2 1 1) ∷ drains
+abbrev through_a_line : Board
+through_a_line = (outcome small_board (does (Request 0 0 0) ∷ drains ∷ does (Request 1 0 1) ∷ drains ∷ does (Request 2 1 1) ∷ drains
     ∷ does (Request 2 0 0) ∷ drains ∷ does (Request 0 1 1) ∷ drains ∷ [])).board
 
 -- p0 holds a and stands in line for b, which p1 holds; p1's request for a has arrived, and the list that it started is on its way
@@ -38,7 +38,7 @@ pub record CasesHold : Type 0 where
   -- the paper's ring
   pub in_full : rings ran_in_full ≡ ring_of (0 ∷ 1 ∷ []) ∷ ring_of (1 ∷ 0 ∷ []) ∷ no_ring ∷ []
   -- a ring through a line: p2 waits for p1, which stands ahead of it
-  pub line : rings through_aLine ≡ ring_of (0 ∷ 2 ∷ 1 ∷ []) ∷ ring_of (1 ∷ 0 ∷ 2 ∷ []) ∷ ring_of (2 ∷ 1 ∷ 0 ∷ []) ∷ []
+  pub line : rings through_a_line ≡ ring_of (0 ∷ 2 ∷ 1 ∷ []) ∷ ring_of (1 ∷ 0 ∷ 2 ∷ []) ∷ ring_of (2 ∷ 1 ∷ 0 ∷ []) ∷ []
   -- a ring that no list has recorded
   pub none : tally unrecorded ≡ 0
   pub there : rings unrecorded ≡ ring_of (0 ∷ 1 ∷ []) ∷ ring_of (1 ∷ 0 ∷ []) ∷ no_ring ∷ []

@@ -27,7 +27,7 @@ use Rattle.rules.proofs.Tables.{same_test, both, both_left, both_right, place_fi
 use Rattle.shape.specs.declared.stand.Standing.{Standing}
 use Rattle.shape.specs.Stand.{RowFits, AskerFits, kind_in, book_in, AskersFit, LinesFit, nobody, noted, noted_row, noted_kind, noted_requests, noted_lines}
 use Rattle.sums.proofs.Sums.{read_at}
-use Rattle.shape.proofs.Tests.{row_below, up-to-le, marked_none}
+use Rattle.shape.proofs.Tests.{row_below, up_to_le, marked_none}
 
 -- ---- what has been noted, of processes that stand so many times each
 pub record Knows (s : Standing) (times : ℕ → ℕ) : Type 0 where
@@ -196,7 +196,7 @@ lines_fit books pc oc h os o l =
     let x = book_in books o in
     let c = up_to o oc pc in
     let parts = middle (holds_fit x.shared x.exclusive c) (leb x.line_count 16) (row_fits x.line x.line_count c) _ (all_at 16 _ os o l) in
-    row_below x.line x.line_count c parts.1 (leb-true _ 16 parts.0) (up-to-le o oc pc h)
+    row_below x.line x.line_count c parts.1 (leb-true _ 16 parts.0) (up_to_le o oc pc h)
 
 -- a request's process, and a line, as they are read
 pub asker_at : (kind : Kind) (p o : ℕ) (m : Mode) → AskerFits kind → kind ≡ Request p o m → p < 16

@@ -63,8 +63,8 @@ disjoint s x h = same_test _ _ there back
     back e = eq-eqb _ _ (empty_from 16 (bit_and s x) (omega (arith, and_le_l s x)) (λ q l. taken_and s x q ∙ not-true _ (all_at 16 _ e q l)))
 
 -- the count for a record is no more than the count
-pub up-to-le : (k c n : ℕ) → n ≤ 16 → up_to k c n ≤ 16
-up-to-le k c n h = go (ltb k c)
+pub up_to_le : (k c n : ℕ) → n ≤ 16 → up_to k c n ≤ 16
+up_to_le k c n h = go (ltb k c)
   where
     go : (t : Bool) → pick t n 0 ≤ 16
     go true = h
