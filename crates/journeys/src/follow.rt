@@ -10,7 +10,7 @@ pub fn print(rt: &(impl Print + Errors), out: &[u8; 65536], end: usize) -> bool 
 }
 
 // Where the words go on; what stands before that place is not written yet. And whether a write failed.
-#[derive(Drop)]
+#[derive(Clone, Copy)]
 pub struct Tail {
     pub at: usize,
     pub failed: bool,

@@ -19,7 +19,7 @@ mod told;
 pub use told::{Errors, failed};
 
 // What an argument is taken for.
-#[derive(Drop)]
+#[derive(Clone, Copy)]
 pub enum Argument {
     Help,
     StandardInput,

@@ -70,3 +70,68 @@ pub fn whole<R: Errors + Clock + CpuClock, F: Write + Drop, I: std::io::Read>(
     let failed = Some(Error::from(ErrorKind::FileTooLarge));
     over(rt, chart, failed, screen)
 }
+
+#[cfg(test)]
+mod tests {
+    use super::whole;
+    use crate::screen::{Outlet, Screen};
+    use std::fs::File;
+    use std::io::{Error, ErrorKind, Result};
+
+    // Gives a zero byte at each of its first reads: a length of 0 and so an empty sheet after two, and half a length after the third. It fails
+    // at the fourth, or ends there.
+    #[derive(Drop)]
+    struct Broken {
+        turn: u8,
+        fails: bool,
+    }
+
+    impl std::io::Read for Broken {
+        fn read(&mut self, buf: &mut [u8]) -> Result<usize> {
+            self.turn = self.turn.saturating_add(1);
+            if self.turn > 3 && self.fails {
+                return Err(Error::from(ErrorKind::ConnectionReset));
+            }
+            if self.turn > 3 || buf.is_empty() {
+                return Ok(0);
+            }
+            buf[0] = 0;
+            Ok(1)
+        }
+    }
+
+    fn no_terminal() -> Screen<File> {
+        Screen {
+            terminal: Outlet::Nowhere,
+            shown: 0,
+            eighth: 0,
+            second: 0,
+        }
+    }
+
+    #[test]
+    fn a_failure_is_handed_on(rt: HostRuntime) {
+        let mut from = Broken {
+            turn: 0,
+            fails: true,
+        };
+        let taken = whole(&rt, &mut from, no_terminal());
+        assert_eq!(rt; taken.chart.totals.sheets, 1);
+        match taken.failed {
+            Some(why) => assert!(rt; why.kind() == ErrorKind::ConnectionReset),
+            None => assert!(rt; false),
+        }
+    }
+
+    #[test]
+    fn an_end_is_no_failure(rt: HostRuntime) {
+        let mut from = Broken {
+            turn: 0,
+            fails: false,
+        };
+        let taken = whole(&rt, &mut from, no_terminal());
+        assert_eq!(rt; taken.chart.totals.sheets, 1);
+        assert!(rt; taken.failed.is_none());
+        assert_eq!(rt; term::ended(taken.chart).totals.sheets, 2);
+    }
+}
