@@ -1,10 +1,6 @@
 -- Lines that the checker has computed: whole or not, and what they ask.
-use mathlib.Core.Path.{◌≡◌, refl}
-use mathlib.Core.Bool.{Bool, true, false}
-use mathlib.Core.List.{List, [], ◌∷◌}
-use Prim.Native.Nat.{ℕ}
+use Rattle.std.proofs.Common.{◌≡◌, refl, Bool, true, false, List, [], ◌∷◌, ℕ, take}
 use Prim.Native.String as Text
-use lib.ListN.{take}
 use Rattle.rules.specs.Tables.{rows}
 use Rattle.rules.specs.declared.Command.{Command}
 use Rattle.rules.specs.declared.Command.TheVariants as Do

@@ -1,6 +1,3 @@
--- Laws of lines and of the homes that they type, which the proofs of the functions cite.
-pub mod Lines
-pub mod Filling
-pub mod Homes
+-- Laws of what a typed line asks of a board, which the proofs of the functions cite.
 pub mod Examples
 pub mod Determined

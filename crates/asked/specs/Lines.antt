@@ -1,5 +1,6 @@
 -- Which typed lines are whole commands.
 use Rattle.std.specs.Prelude.{ℕ, ◌+◌, Bool, false, ◌&&◌, List, eqb, leb, ltb}
+use Rattle.std.specs.Option.{is_none}
 use Rattle.rules.specs.Tables.{pick, either}
 use Rattle.rules.specs.Commands.{outside}
 use Rattle.typed.specs.declared.Verb.{Verb}
@@ -53,4 +54,4 @@ has_all v row count = pick (is v Open) (opens row count) (leb (least v) count &&
 
 -- each word is understood, and they are as many as the verb takes
 unfoldable pub is_whole : Typed → Bool
-is_whole t = pick (eqb t.odd 0) (has_all t.verb t.numbers t.count) false
+is_whole t = pick (is_none t.odd) (has_all t.verb t.numbers t.count) false

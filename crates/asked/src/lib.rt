@@ -6,19 +6,21 @@ pub mod line;
 ghost use Rattle.std.specs.Prelude.{◌≡◌};
 ghost use Rattle.asked.specs.Asked as Asked;
 
+use opening::Opening;
 use rules::{Command, Stepped};
+use std::array;
 use typed::homes::{cut, homes};
 use typed::{Typed, Verb};
 
 // The command that a verb and its numbers are. A verb that names none is as a delivery.
+#[tactic(auto, using(typed::proofs::Verbs::is_not), unfolding(crate::specs::Asked::command_of))]
 pub fn command(t: Typed) -> Command
     ensures { result ≡ Asked.command t }
 {
-    let verb = t.verb;
     let row = t.numbers;
     let first = cut(row[0]);
     let second = cut(row[1]);
-    match verb {
+    match t.verb {
         Verb::Request => Command::Request(first, second, cut(row[2])),
         Verb::Release => Command::Release(first, second),
         _ => Command::Deliver(first),
@@ -29,53 +31,50 @@ pub fn command(t: Typed) -> Command
 pub fn budget(t: Typed) -> usize
     ensures { result ≡ Asked.budget t }
 {
-    let row = t.numbers;
     if t.count == 0 {
-        return 65535;
+        65535
+    } else {
+        usize::from(t.numbers[0])
     }
-    row[0] as usize
 }
 
 // Number k lives on node k modulo the node count; without nodes, on node 0.
+fn node_of(k: usize, nodes: u8) -> u8
+    ensures { result ≡ Asked.in_turn_at nodes k }
+{
+    k.checked_rem(usize::from(nodes)).unwrap_or(0) as u8
+}
+
 fn in_turn(nodes: u8) -> [u8; 16]
     ensures { result ≡ Asked.in_turn nodes }
 {
-    let mut r = [0u8; 16];
-    let mut i: u8 = 0;
-    if nodes == 0 {
-        return r;
-    }
-    while i < 16 {
-        r[values::bits::wide(i)] = i % nodes;
-        i += 1;
-    }
-    r
+    array::from_fn(|k| node_of(k, nodes))
 }
 
 // The homes of an opening behind so many others: those that it types, or in turn where it types none.
+#[tactic(auto, unfolding(crate::specs::Asked::homes_behind))]
 fn homes_behind(t: Typed, others: u8) -> [u8; 16]
     ensures { result ≡ Asked.homes_behind t others }
 {
-    let row = t.numbers;
     if t.count == 3 {
-        return in_turn(cut(row[0]));
+        in_turn(cut(t.numbers[0]))
+    } else {
+        homes(t.numbers, others)
     }
-    homes(row, others)
 }
 
 // The opening that a line types.
+#[tactic(auto, unfolding(crate::specs::Asked::opened))]
 pub fn opened(t: Typed) -> Stepped
     ensures { result ≡ Asked.opened t }
 {
-    let row = t.numbers;
-    let processes = cut(row[1]);
-    let process_home = homes_behind(t, 0);
-    let object_home = homes_behind(t, processes);
-    opening::open(
-        cut(row[0]),
+    let processes = cut(t.numbers[1]);
+    let given = Opening {
+        nodes: cut(t.numbers[0]),
         processes,
-        cut(row[2]),
-        process_home,
-        object_home,
-    )
+        objects: cut(t.numbers[2]),
+        process_home: homes_behind(t, 0),
+        object_home: homes_behind(t, processes),
+    };
+    given.open()
 }

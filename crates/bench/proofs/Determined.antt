@@ -38,10 +38,10 @@ module _ {M : Type 1} {𝓤 : Ura M} (𝓛 : Logic 𝓤) (mem : Memory → SProp
   pub run_determined : Determined many.ended (many.clauses 𝓛 mem run) {S = Ran × List ℕ} (λ κs r e. (r, e.1.1.0.now))
   run_determined = by_equations (λ κs a. (Sheet.run a.0 a.1.0.now a.1.1.0.now).ran) (λ κs a. (Sheet.run a.0 a.1.0.now a.1.1.0.now).room) (λ κs a g r e. refl)
 
-  pub run_opening_determined : Determined from-opening.ended (from-opening.clauses 𝓛 mem run) {S = Ran × List ℕ} (λ κs r e. (r, e.1.1.1.1.1.1.0.now))
+  pub run_opening_determined : Determined from-opening.ended (from-opening.clauses 𝓛 mem run) {S = Ran × List ℕ} (λ κs r e. (r, e.1.1.0.now))
   run_opening_determined = by_equations
-      (λ κs a. (Sheet.run_opening a.0 a.1.0 a.1.1.0 a.1.1.1.0 a.1.1.1.1.0 a.1.1.1.1.1.0.now a.1.1.1.1.1.1.0.now).ran)
-      (λ κs a. (Sheet.run_opening a.0 a.1.0 a.1.1.0 a.1.1.1.0 a.1.1.1.1.0 a.1.1.1.1.1.0.now a.1.1.1.1.1.1.0.now).room)
+      (λ κs a. let o = a.0.now in (Sheet.run_opening o.nodes o.processes o.objects o.process_home o.object_home a.1.0.now a.1.1.0.now).ran)
+      (λ κs a. let o = a.0.now in (Sheet.run_opening o.nodes o.processes o.objects o.process_home o.object_home a.1.0.now a.1.1.0.now).room)
       (λ κs a g r e. refl)
 
   pub drain_determined : Determined drain.ended (drain.clauses 𝓛 mem run) (λ κs r e. r)

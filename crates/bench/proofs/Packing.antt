@@ -1,14 +1,13 @@
 -- One command by value: packed into two bytes it is the command itself, its answer's number stands for its answer, and a number that
 -- no packed field holds is refused by its first tests.
 use mathlib.Core.Path.{◌≡◌, refl, ◌∙◌}
-use mathlib.Core.Logic.{◌≢◌}
+use mathlib.Core.Logic.{inl, inr}
 use mathlib.Core.List.{List, [], ◌∷◌}
 use Prim.Native.Nat.{ℕ, ◌+◌, ◌*◌, ◌/◌, ◌%◌, ◌≤◌, ◌<◌}
 use native.Mathlib.Omega.{arith}
 use borrow.Author.Tests.{lt-ltb, le-ltb, le-leb, lt-leb}
 use lib.ListN.{get_or}
 use Rattle.rules.specs.declared.Board.{Board}
-use Rattle.rules.specs.declared.Command.{Command}
 use Rattle.rules.specs.declared.Command.TheVariants as Do
 use Rattle.rules.specs.declared.Answer.{Answer}
 use Rattle.rules.specs.declared.Answer.TheVariants.{NoProcess, NoObject, NoMode, NoMessage}
@@ -17,10 +16,9 @@ use Rattle.rules.specs.Answers.{first_of}
 use Rattle.rules.specs.Commands.{answer_to, turn}
 use Rattle.rules.specs.Sheet.{command_at, board_after, room_after}
 use Rattle.rules.proofs.Sheet.{command_bytes}
-use Rattle.values.specs.Numbers.{answer_of}
-use Rattle.values.proofs.Numbers.{answer_back}
-use Rattle.bench.specs.declared.commands.Packed.{Packed}
-use Rattle.bench.specs.Packed.{Packs}
+use Rattle.rules.specs.Answers.{answer_of}
+use Rattle.rules.proofs.Numbers.{answer_back}
+use Rattle.bench.specs.Packed.{Outside, Refuses}
 
 -- ---- one command through the engine
 pub once-turns : (b : Board) (s : List ℕ) (next : Board) (room : List ℕ) → next ≡ board_after b s 1 → room ≡ room_after b s (0 ∷ []) 1
@@ -29,13 +27,6 @@ unfolding board_after room_after turn
 once-turns b s next room e f a g = rw (g, e, f, answer_back (answer_to b (command_at s 0)))
 
 -- ---- a command packed
-pub refuses : (pc oc n : ℕ) (c : Command) (r : Packed) → r ≡ record { refusal = n; first = 0; second = 0 } → n ≢ 0
-    → ((b : Board) → b.process_count ≡ pc → b.object_count ≡ oc → ◌≡◌ {A = Stepped} (record { answer = answer_of n; board = b }) (turn b c)) → Packs pc oc c r
-refuses pc oc n c r e h f = rw e (record { stands = λ z. absurd (h z); refused = λ _. f })
-
-pub stands : (pc oc hi lo : ℕ) (c : Command) → command_at (hi ∷ lo ∷ []) 0 ≡ c → Packs pc oc c (record { refusal = 0; first = hi; second = lo })
-stands pc oc hi lo c e = record { stands = λ _. e; refused = λ h. absurd (h refl) }
-
 module _ (p o : ℕ) (h : p < 16) (g : o < 16) where
   abbrev low : ℕ
   low = o % 4 * 64
@@ -83,3 +74,13 @@ module _ (b : Board) where
   pub no_message : (n : ℕ) → 63 < n → refusal NoMessage ≡ turn b (Do.Deliver n)
   unfolding turn answer_to first_of
   no_message n h = rw (le-ltb n 64 (omega (arith, h)))
+
+-- ---- a process or an object that no such board has
+module _ (p o pc oc : ℕ) (a : Answer) where
+  pub request_outside : (m : ℕ) → Outside p o pc oc a → Refuses pc oc (Do.Request p o m) a
+  request_outside m (inl h) b e f = rw h.1 (no-process b p o m (omega (arith, e, h.0)))
+  request_outside m (inr h) b e f = rw h.2 (no-object b p o m (omega (arith, e, h.0)) (omega (arith, f, h.1)))
+
+  pub release_outside : Outside p o pc oc a → Refuses pc oc (Do.Release p o) a
+  release_outside (inl h) b e f = rw h.1 (release_no_process b p o (omega (arith, e, h.0)))
+  release_outside (inr h) b e f = rw h.2 (release_no_object b p o (omega (arith, e, h.0)) (omega (arith, f, h.1)))

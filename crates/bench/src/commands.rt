@@ -1,87 +1,49 @@
 // One command, packed for the engine.
-ghost use Rattle.std.specs.Prelude.{◌≡◌, ◌≤◌};
-ghost use Rattle.rules.specs.declared.Command.TheVariants as Do;
-ghost use Rattle.bench.specs.Packed.{Packs};
+ghost use Rattle.std.specs.Prelude.{◌≡◌, ◌≤◌, ◌<◌, ◌+◌, ◌*◌, ◌/◌, ◌%◌, [], ◌∷◌, MatchResult};
+ghost use Rattle.bench.specs.Packed.{Packs, Outside};
 
-use rules::Command;
+use rules::{Answer, Command};
 
-// The two bytes that stand for a command; or the number of the answer that refuses it, and no bytes.
-#[derive(Clone, Copy)]
-pub struct Packed {
-    pub refusal: u8,
-    pub first: u8,
-    pub second: u8,
-}
-
-fn refused(number: u8) -> Packed
-    ensures { result ≡ record { refusal = number; first = 0; second = 0 } }
-{
-    Packed {
-        refusal: number,
-        first: 0,
-        second: 0,
-    }
-}
-
-// A number at or above its count, or no mode, is refused at once; what is left fits the packed fields.
-fn request(p: u8, o: u8, m: u8, pc: u8, oc: u8) -> Packed
-    requires { (pc ≤ 16) × (oc ≤ 16) }
-    ensures { Packs pc oc (Do.Request p o m) result }
+// A process and an object that the board has; or the answer that refuses them.
+fn known(p: u8, o: u8, pc: u8, oc: u8) -> Result<(), Answer>
+    ensures { MatchResult result (λ _. (p < pc) × (o < oc)) (Outside p o pc oc) }
 {
     if pc <= p {
-        return refused(3);
+        return Err(Answer::NoProcess);
     }
     if oc <= o {
-        return refused(4);
+        return Err(Answer::NoObject);
     }
-    if 1 < m {
-        return refused(5);
-    }
-    Packed {
-        refusal: 0,
-        first: m * 64 + p * 4 + o / 4,
-        second: (o % 4) * 64,
-    }
+    Ok(())
 }
 
-fn release(p: u8, o: u8, pc: u8, oc: u8) -> Packed
-    requires { (pc ≤ 16) × (oc ≤ 16) }
-    ensures { Packs pc oc (Do.Release p o) result }
+// The bytes of a request or a release: the kind's number, the process and the object.
+fn at_home(kind: u8, p: u8, o: u8) -> [u8; 2]
+    requires { (kind < 3) × (p < 16) × (o < 16) }
+    ensures { result ≡ (kind * 64 + p * 4 + o / 4) ∷ (o % 4 * 64) ∷ [] }
 {
-    if pc <= p {
-        return refused(3);
-    }
-    if oc <= o {
-        return refused(4);
-    }
-    Packed {
-        refusal: 0,
-        first: 128 + p * 4 + o / 4,
-        second: (o % 4) * 64,
-    }
+    [kind * 64 + p * 4 + o / 4, (o % 4) * 64]
 }
 
-fn deliver(n: u8, pc: u8, oc: u8) -> Packed
-    ensures { Packs pc oc (Do.Deliver n) result }
-{
-    if 63 < n {
-        return refused(11);
-    }
-    Packed {
-        refusal: 0,
-        first: 192 + n,
-        second: 0,
-    }
-}
-
-// The command on a board with so many processes and objects.
-pub fn pack(c: Command, pc: u8, oc: u8) -> Packed
+// The two bytes that stand for the command on a board with so many processes and objects; or the answer that refuses it. A number at or
+// above its count, or no mode, is refused at once; what is left fits the packed fields.
+pub fn pack(c: Command, pc: u8, oc: u8) -> Result<[u8; 2], Answer>
     requires { (pc ≤ 16) × (oc ≤ 16) }
     ensures { Packs pc oc c result }
 {
     match c {
-        Command::Request(p, o, m) => request(p, o, m, pc, oc),
-        Command::Release(p, o) => release(p, o, pc, oc),
-        Command::Deliver(n) => deliver(n, pc, oc),
+        Command::Request(p, o, m) => {
+            known(p, o, pc, oc)?;
+            if 1 < m {
+                return Err(Answer::NoMode);
+            }
+            Ok(at_home(m, p, o))
+        }
+        Command::Release(p, o) => {
+            known(p, o, pc, oc)?;
+            Ok(at_home(2, p, o))
+        }
+        Command::Deliver(n) if n < 64 => Ok([192 + n, 0]),
+        Command::Deliver(_) => Err(Answer::NoMessage),
     }
 }

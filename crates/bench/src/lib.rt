@@ -6,7 +6,9 @@ ghost use Rattle.std.specs.Prelude.{◌≡◌, []};
 ghost use Rattle.rules.specs.declared.Command.TheVariants as Do;
 ghost use Rattle.rules.specs.Shape as Rules;
 ghost use Rattle.rules.specs.Sheet as Sheet;
+ghost use Rattle.bench.specs.Runs.{Fits};
 
+use opening::Opening;
 use rules::{Answer, Board, Command, Drained, Ran, Stepped};
 
 mod commands;
@@ -16,27 +18,21 @@ mod guard;
 pub fn step(b: Board, c: Command) -> Stepped
     ensures { result ≡ Rules.step b c }
 {
-    let load = guard::load_if_ready(b);
-    if 64 < load {
+    let Some(load) = guard::load_if_ready(b) else {
         return Stepped {
             answer: Answer::OutOfShape,
             board: b,
         };
-    }
-    let packed = commands::pack(c, b.process_count, b.object_count);
-    if packed.refusal != 0 {
-        return Stepped {
-            answer: values::answer::answer_of(packed.refusal),
-            board: b,
-        };
-    }
-    let s = [packed.first, packed.second];
+    };
+    let s = match commands::pack(c, b.process_count, b.object_count) {
+        Ok(bytes) => bytes,
+        Err(answer) => return Stepped { answer, board: b },
+    };
     let mut room = [0u8; 1];
-    let r = engine::turns(b, &s, false, 1, &mut room, load);
-    let next = r.board;
+    let turned = engine::turns(b, &s[..], 1, &mut room, load);
     Stepped {
-        answer: values::answer::answer_of(room[0]),
-        board: next,
+        answer: Answer::from(room[0]),
+        board: turned.board,
     }
 }
 
@@ -62,14 +58,28 @@ pub fn deliver(b: Board, n: u8) -> Stepped
 }
 
 // Nothing is run: the answer, no command, and the board that is given.
-fn refused(a: Answer, b: Board) -> Ran
-    ensures { result ≡ (Sheet.refused_run a b []).ran }
+fn refused(answer: Answer, board: Board) -> Ran
+    ensures { result ≡ (Sheet.refused_run answer board []).ran }
 {
     Ran {
-        answer: a,
+        answer,
         commands: 0,
-        board: b,
+        board,
     }
+}
+
+// How many commands the slice holds, where the room has a byte for each; or the answer that refuses them.
+fn whole_commands(s: &[u8], room: &[u8]) -> Result<usize, Answer>
+    ensures { Fits s.now room.now result }
+{
+    if s.len() % 2 == 1 {
+        return Err(Answer::OddByte);
+    }
+    let n = s.len() / 2;
+    if room.len() < n {
+        return Err(Answer::RoomTooShort);
+    }
+    Ok(n)
 }
 
 // Packed commands, two bytes each; the number of each answer goes into the room, whose bytes beyond them stay. It is one call, so the
@@ -77,69 +87,48 @@ fn refused(a: Answer, b: Board) -> Ran
 pub fn run(b: Board, s: &[u8], room: &mut [u8]) -> Ran
     ensures { (result ≡ (Sheet.run b s.now room.old).ran) × (room.new ≡ (Sheet.run b s.now room.old).room) }
 {
-    let load = guard::load_if_ready(b);
-    if 64 < load {
+    let Some(load) = guard::load_if_ready(b) else {
         return refused(Answer::OutOfShape, b);
+    };
+    match whole_commands(s, room) {
+        Ok(n) => engine::turns(b, s, n, room, load),
+        Err(answer) => refused(answer, b),
     }
-    if s.len() % 2 == 1 {
-        return refused(Answer::OddByte, b);
-    }
-    let n = s.len() / 2;
-    if room.len() < n {
-        return refused(Answer::RoomTooShort, b);
-    }
-    engine::turns(b, s, false, n, room, load)
 }
 
 // An opening, and packed commands on it. An opening is in shape, so the shape is not asked. Where the call is refused, for any reason,
 // the board is all zeros.
-pub fn run_opening(
-    nodes: u8,
-    processes: u8,
-    objects: u8,
-    process_home: [u8; 16],
-    object_home: [u8; 16],
-    s: &[u8],
-    room: &mut [u8],
-) -> Ran
-    ensures { (result ≡ (Sheet.run_opening nodes processes objects process_home object_home s.now room.old).ran)
-        × (room.new ≡ (Sheet.run_opening nodes processes objects process_home object_home s.now room.old).room) }
+pub fn run_opening(opening: &Opening, s: &[u8], room: &mut [u8]) -> Ran
+    ensures { (result ≡ (Sheet.run_opening opening.now.nodes opening.now.processes opening.now.objects opening.now.process_home opening.now.object_home s.now room.old).ran)
+        × (room.new ≡ (Sheet.run_opening opening.now.nodes opening.now.processes opening.now.objects opening.now.process_home opening.now.object_home s.now room.old).room) }
 {
-    let answer = opening::answer(nodes, processes, objects, process_home, object_home);
-    if values::answer::number(answer) != 0 {
+    let answer = opening.answer();
+    if !answer.is_done() {
         return refused(answer, opening::zero_board());
     }
-    if s.len() % 2 == 1 {
-        return refused(Answer::OddByte, opening::zero_board());
+    match whole_commands(s, room) {
+        Ok(n) => engine::turns(opening.board(), s, n, room, 0),
+        Err(answer) => refused(answer, opening::zero_board()),
     }
-    let n = s.len() / 2;
-    if room.len() < n {
-        return refused(Answer::RoomTooShort, opening::zero_board());
-    }
-    let start = opening::board(nodes, processes, objects, process_home, object_home);
-    engine::turns(start, s, false, n, room, 0)
 }
 
 // The lowest-numbered message arrives, again and again, until none is left or the budget is used.
 pub fn drain(b: Board, budget: usize) -> Drained
     ensures { result ≡ Rules.drain b budget }
 {
-    let load = guard::load_if_ready(b);
-    if 64 < load {
+    let Some(load) = guard::load_if_ready(b) else {
         return Drained {
             answer: Answer::OutOfShape,
             made: 0,
             board: b,
         };
-    }
-    // The engine reads no command of a drain; the room takes the answers, which are not kept.
-    let s = [0u8; 2];
+    };
+    // The room takes the answers, which are not kept.
     let mut room = [0u8; 1];
-    let r = engine::turns(b, &s, true, budget, &mut room, load);
-    let last = r.board;
+    let r = engine::turns(b, engine::Lowest, budget, &mut room, load);
     Drained {
         answer: Answer::Done,
         made: r.commands,
-        board: last,
+        board: r.board,
     }
 }

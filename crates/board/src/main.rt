@@ -6,7 +6,10 @@ use std::fs::File;
 use std::io::StdinLock;
 
 // What is read, by the argument; the text is what --help prints.
-fn started(rt: &HostRuntime, name: &mut [u8; 4096]) -> Source<StdinLock<'static>, File> {
+fn started<'a>(
+    rt: &HostRuntime,
+    name: &'a mut [u8; 4096],
+) -> Option<Source<'a, StdinLock<'static>, File>> {
     program::start(
         rt,
         b"board runs a packed sheet and prints what came of it.
@@ -31,14 +34,12 @@ written, or an argument is wrong; that is told on standard error.
 
 fn main(rt: HostRuntime) {
     let mut name = io::buffer();
-    let Source::Reads { mut from, named } = started(&rt, &mut name) else {
+    let Some(Source { mut from, named }) = started(&rt, &mut name) else {
         return;
     };
     let mut sheet = io::large_buffer();
-    let read = input::whole(&mut from, &mut sheet);
-    if let Some(why) = read.failed {
-        program::read_failed(&rt, &name, named, why);
-        return;
-    }
-    report::show(&rt, &sheet, read.count);
+    let _ = match input::whole(&mut from, &mut sheet) {
+        Ok(count) => report::show(&rt, &sheet, count),
+        Err(broken) => Err(program::read_failed(&rt, named, broken.why)),
+    };
 }

@@ -2,9 +2,7 @@
 use mathlib.Core.Path.{◌≡◌, ap, ◌∙◌}
 use mathlib.Core.List.{List, [], ◌∷◌, append-nil}
 use Prim.Native.Nat.{ℕ}
-use native.Mathlib.Omega.{arith}
 use lib.ListN.{length-replicate}
-use Rattle.text.proofs.Text.{wrote_start}
 use Rattle.totals.specs.Stream.{sheets_in}
 use Rattle.totals.specs.Totals.{totals_of}
 use Rattle.term.specs.Feed.{ended}
@@ -19,5 +17,4 @@ unfolding chart_of fed_all joined
 totals-of w = chart_holds.charted (w ∷ []) start.sheet (length-replicate {A = ℕ} 8206 0) ∙ ap (λ (l : List ℕ). totals_of (sheets_in l)) (append-nil w)
 
 pub whole_charted : WholeCharted
-whole_charted w old out end size wrote fits =
-    wrote_start old _ out end wrote (omega (arith, size)) ∙ ap chart_lines (totals-of w)
+whole_charted w page e = e ∙ ap chart_lines (totals-of w)

@@ -1,19 +1,23 @@
 // Reads a stream of sheets and prints its chart: how many sheets ran, how many were refused, and the rings that were recorded.
 #![tactic(auto)]
 
-ghost use Rattle.std.specs.Prelude.{◌≤◌};
-ghost use Rattle.text.specs.Text.{Wrote};
+ghost use Rattle.std.specs.Prelude.{◌≡◌, ◌≤◌};
+ghost use Rattle.arrayvec.specs.ArrayVec.{array_vec_len};
 ghost use Rattle.term.specs.Feed.{ended};
 ghost use Rattle.charted.specs.Lines.{chart_lines};
 
-use program::{Errors, Source};
+use program::{Errors, Source, Told};
 use std::fs::File;
 use std::io::StdinLock;
 use stream::screen;
 use term::Chart;
+use text::Page;
 
 // What is read, by the argument; the text is what --help prints.
-fn started(rt: &HostRuntime, name: &mut [u8; 4096]) -> Source<StdinLock<'static>, File> {
+fn started<'a>(
+    rt: &HostRuntime,
+    name: &'a mut [u8; 4096],
+) -> Option<Source<'a, StdinLock<'static>, File>> {
     program::start(
         rt,
         b"chart runs every sheet of a stream and prints how many came to what.
@@ -54,36 +58,27 @@ written, or an argument is wrong; that is told on standard error.
     )
 }
 
-fn print(rt: &(impl Print + Errors), text: &[u8; 65536], n: usize) {
-    program::write(rt, text::start(text, n));
-}
-
-// The stream has ended: the lines of its chart.
-fn composed(out: &mut [u8; 65536], chart: Chart) -> usize
-    ensures { (Wrote out.old 0 (chart_lines (ended chart).totals) out.new result) × (result ≤ 65536) }
+// The stream has ended: the lines of its chart, and nothing else on the page.
+fn composed(out: &mut Page, chart: Chart)
+    ensures { (out.new.items ≡ chart_lines (ended chart).totals) × (array_vec_len out.new ≤ 65536) }
 {
-    let done = term::ended(chart);
-    let totals = done.totals;
-    charted::composed(out, totals)
+    charted::composed(out, term::ended(chart).totals);
 }
 
-fn show(rt: &(impl Print + Errors), chart: Chart) {
-    let mut out = io::large_buffer();
-    let end = composed(&mut out, chart);
-    print(rt, &out, end);
+fn show(rt: &(impl Print + Errors), chart: Chart) -> Result<(), Told> {
+    let mut out = Page::new();
+    composed(&mut out, chart);
+    program::write(rt, out.as_slice())
 }
 
 fn main(rt: HostRuntime) {
     let terminal = screen::found(&rt);
     let mut name = io::buffer();
-    let Source::Reads { mut from, named } = started(&rt, &mut name) else {
+    let Some(Source { mut from, named }) = started(&rt, &mut name) else {
         return;
     };
-    let taken = stream::whole(&rt, &mut from, terminal);
-    if let Some(why) = taken.failed {
-        program::read_failed(&rt, &name, named, why);
-        return;
-    }
-    let chart = taken.chart;
-    show(&rt, chart);
+    let _ = match stream::whole(&rt, &mut from, terminal) {
+        Ok(chart) => show(&rt, chart),
+        Err(broken) => Err(program::read_failed(&rt, named, broken.why)),
+    };
 }

@@ -1,40 +1,54 @@
--- Laws of the lines of a chart: each by the parts that are put one after another. Assumes nothing.
-use mathlib.Core.Path.{◌≡◌, refl}
-use mathlib.Core.List.{List, [], ◌∷◌, ◌++◌, append_assoc, append-nil}
-use Prim.Native.Nat.{ℕ, ◌+◌}
-use lib.ListN.{get_or}
+-- Laws of the lines of a chart: each by the parts that are put one after another behind what stands on the page. Assumes nothing.
+use Rattle.std.proofs.Common.{◌≡◌, refl, ap, List, [], ◌∷◌, ◌++◌, append_assoc, ◌∙◌, sym, ℕ, ◌+◌, ◌-◌, ◌≤◌, get_or, arith}
+use mathlib.Core.List.{append-nil}
 use Rattle.text.specs.Text.{bytes, decimal, after_spaces, spaced, line_of, flat}
+use Rattle.text.proofs.Text.{page_next}
 use Rattle.totals.specs.declared.Totals.{Totals}
 use Rattle.charted.specs.Lines.{total_line, place_line, refused_lines, ring_lines, chart_lines}
 
-module _ (a b c d e f : List ℕ) where
-  two_words : ((a ++ b) ++ c) ++ d ≡ (a ++ (b ++ (c ++ []))) ++ d
+module _ (page a b c d e f : List ℕ) where
+  two_words : (((page ++ a) ++ b) ++ c) ++ d ≡ page ++ ((a ++ (b ++ (c ++ []))) ++ d)
   two_words = simp (append_assoc, append-nil)
 
-  three_words : ((((a ++ b) ++ c) ++ d) ++ e) ++ f ≡ (a ++ (b ++ (c ++ (d ++ (e ++ []))))) ++ f
+  three_words : (((((page ++ a) ++ b) ++ c) ++ d) ++ e) ++ f ≡ page ++ ((a ++ (b ++ (c ++ (d ++ (e ++ []))))) ++ f)
   three_words = simp (append_assoc, append-nil)
 
-pub total_parts : (name : List ℕ) (n : ℕ) → ((name ++ 32 ∷ []) ++ decimal n) ++ 10 ∷ [] ≡ total_line name n
-unfolding total_line line_of spaced after_spaces
-total_parts name n = two_words name (32 ∷ []) (decimal n) (10 ∷ []) [] []
+module _ (page : List ℕ) where
+  pub total_parts : (name : List ℕ) (n : ℕ) → (((page ++ name) ++ 32 ∷ []) ++ decimal n) ++ 10 ∷ [] ≡ page ++ total_line name n
+  unfolding total_line line_of spaced after_spaces
+  total_parts name n = two_words page name (32 ∷ []) (decimal n) (10 ∷ []) [] []
 
-pub place_parts : (name table : List ℕ) (k : ℕ) → ((((name ++ 32 ∷ []) ++ decimal k) ++ 32 ∷ []) ++ decimal (get_or table k 0)) ++ 10 ∷ [] ≡ place_line name table k
-unfolding place_line line_of spaced after_spaces
-place_parts name table k = three_words name (32 ∷ []) (decimal k) (32 ∷ []) (decimal (get_or table k 0)) (10 ∷ [])
+  module _ (name table : List ℕ) where
+    pub place_parts : (k : ℕ) → (((((page ++ name) ++ 32 ∷ []) ++ decimal k) ++ 32 ∷ []) ++ decimal (get_or table k 0)) ++ 10 ∷ [] ≡ page ++ place_line name table k
+    unfolding place_line line_of spaced after_spaces
+    place_parts k = three_words page name (32 ∷ []) (decimal k) (32 ∷ []) (decimal (get_or table k 0)) (10 ∷ [])
 
-module _ (table : List ℕ) where
-  abbrev with_refused : ℕ → List ℕ
-  with_refused k = place_line (bytes "refused") table k
+    -- one line more
+    pub rings_next : (k : ℕ) {new last : List ℕ} → 2 ≤ k → new ≡ page ++ flat (k - 2) (λ i. place_line name table (i + 2)) → last ≡ new ++ place_line name table k
+        → last ≡ page ++ flat (k + 1 - 2) (λ i. place_line name table (i + 2))
+    rings_next k {new} {last} h e g =
+        let same : k ≡ k - 2 + 2 = omega arith in
+        let up : k - 2 + 1 ≡ k + 1 - 2 = omega arith in
+        rw (← up) (page_next page _ (k - 2) e (g ∙ ap (λ (j : ℕ). new ++ place_line name table j) same))
 
-  pub refused_parts : ((((with_refused 2 ++ with_refused 12) ++ with_refused 13) ++ with_refused 14) ++ with_refused 15) ++ with_refused 16 ≡ refused_lines table
-  unfolding refused_lines
-  refused_parts = refl
+  module _ (table : List ℕ) where
+    pub rings_whole : (k : ℕ) → k ≡ 17 → page ++ flat (k - 2) (λ i. place_line (bytes "rings") table (i + 2)) ≡ page ++ ring_lines table
+    unfolding ring_lines
+    rings_whole k e = rw e
 
-  pub rings_whole : {i : ℕ} → i ≡ 15 → flat i (λ j. place_line (bytes "rings") table (j + 2)) ≡ ring_lines table
-  unfolding ring_lines
-  rings_whole e = rw e
+    pub refused_whole : (k : ℕ) → k ≡ 6 → page ++ flat k (λ i. place_line (bytes "refused") table (get_or (2 ∷ 12 ∷ 13 ∷ 14 ∷ 15 ∷ 16 ∷ []) i 0)) ≡ page ++ refused_lines table
+    unfolding refused_lines flat
+    refused_whole k e = rw e
 
-pub chart_parts : (t : Totals)
-    → ((((total_line (bytes "sheets") t.sheets ++ total_line (bytes "ran") t.ran) ++ total_line (bytes "refused") t.refused) ++ refused_lines t.refused_with) ++ total_line (bytes "ringed") t.ringed) ++ ring_lines t.rings ≡ chart_lines t
+-- the lines one after another, on a page that was empty
+pub chart_whole : (t : Totals) {empty sheets ran refused numbered ringed rings : List ℕ}
+    → empty ≡ []
+    → sheets ≡ empty ++ total_line (bytes "sheets") t.sheets
+    → ran ≡ sheets ++ total_line (bytes "ran") t.ran
+    → refused ≡ ran ++ total_line (bytes "refused") t.refused
+    → numbered ≡ refused ++ refused_lines t.refused_with
+    → ringed ≡ numbered ++ total_line (bytes "ringed") t.ringed
+    → rings ≡ ringed ++ ring_lines t.rings
+    → rings ≡ chart_lines t
 unfolding chart_lines
-chart_parts t = refl
+chart_whole t a b c d e f g = rw (g, f, e, d, c, b, a)

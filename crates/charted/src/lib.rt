@@ -1,74 +1,70 @@
-// The print of a chart: a line for each total, put into one lent buffer.
+// The print of a chart: a line for each total, put on one page.
 #![tactic(auto)]
 
 ghost use Rattle.std.specs.Prelude.{◌≡◌, ◌+◌, ◌<◌, ◌≤◌, length};
-ghost use Rattle.text.specs.Text.{Wrote};
+ghost use Rattle.arrayvec.specs.ArrayVec.{array_vec_len, Extends};
 ghost use Rattle.charted.specs.Lines.{total_line, place_line, refused_lines, ring_lines, chart_lines};
 
-use text::{number, put, total, word};
+use text::{Page, number, put, word};
 use totals::Totals;
 
 // A name and a number.
-fn total_line(out: &mut [u8; 65536], at: usize, name: &[u8], n: u64) -> usize
-    requires { (at + 40 ≤ 65536) × (length name.now ≤ 8) }
-    ensures { (Wrote out.old at (total_line name.now n) out.new result) × (result ≤ at + 40) }
+fn total_line(out: &mut Page, name: &[u8], n: u64)
+    requires { (array_vec_len out.old + 40 ≤ 65536) × (length name.now ≤ 8) }
+    ensures text { Extends out.old (total_line name.now n) out.new }
+    ensures room { array_vec_len out.new ≤ array_vec_len out.old + 40 }
 {
-    let named = word(out, at, name);
-    let spaced = put(out, named, b' ');
-    let counted = total(out, spaced, n);
-    put(out, counted, b'\n')
+    word(out, name);
+    put(out, b' ');
+    number(out, n);
+    put(out, b'\n');
 }
 
 // A name, a place of a table, and the number there.
-fn place_line(out: &mut [u8; 65536], at: usize, name: &[u8], table: [u64; 17], k: usize) -> usize
-    requires { (at + 40 ≤ 65536) × (length name.now ≤ 8) × (k < 17) }
-    ensures { (Wrote out.old at (place_line name.now table k) out.new result) × (result ≤ at + 40) }
+fn place_line(out: &mut Page, name: &[u8], table: &[u64; 17], k: usize)
+    requires { (array_vec_len out.old + 40 ≤ 65536) × (length name.now ≤ 8) × (k < 17) }
+    ensures text { Extends out.old (place_line name.now table.now k) out.new }
+    ensures room { array_vec_len out.new ≤ array_vec_len out.old + 40 }
 {
-    let named = word(out, at, name);
-    let spaced = put(out, named, b' ');
-    let placed = number(out, spaced, k);
-    let parted = put(out, placed, b' ');
-    let counted = total(out, parted, table[k]);
-    put(out, counted, b'\n')
+    word(out, name);
+    put(out, b' ');
+    number(out, k as u64);
+    put(out, b' ');
+    number(out, table[k]);
+    put(out, b'\n');
 }
 
 // The numbers that a sheet is refused with, rising.
-fn refused_lines(out: &mut [u8; 65536], at: usize, table: [u64; 17]) -> usize
-    requires { at + 240 ≤ 65536 }
-    ensures { (Wrote out.old at (refused_lines table) out.new result) × (result ≤ at + 240) }
+fn refused_lines(out: &mut Page, table: &[u64; 17])
+    requires { array_vec_len out.old + 240 ≤ 65536 }
+    ensures text { Extends out.old (refused_lines table.now) out.new }
+    ensures room { array_vec_len out.new ≤ array_vec_len out.old + 240 }
 {
-    let home = place_line(out, at, b"refused", table, 2);
-    let cut = place_line(out, home, b"refused", table, 12);
-    let form = place_line(out, cut, b"refused", table, 13);
-    let spare = place_line(out, form, b"refused", table, 14);
-    let odd = place_line(out, spare, b"refused", table, 15);
-    place_line(out, odd, b"refused", table, 16)
+    for k in [2, 12, 13, 14, 15, 16] {
+        place_line(out, b"refused", table, k);
+    }
 }
 
 // The lengths that a ring can have, rising.
-fn ring_lines(out: &mut [u8; 65536], at: usize, table: [u64; 17]) -> usize
-    requires { at + 600 ≤ 65536 }
-    ensures { (Wrote out.old at (ring_lines table) out.new result) × (result ≤ at + 600) }
+fn ring_lines(out: &mut Page, table: &[u64; 17])
+    requires { array_vec_len out.old + 600 ≤ 65536 }
+    ensures text { Extends out.old (ring_lines table.now) out.new }
+    ensures room { array_vec_len out.new ≤ array_vec_len out.old + 600 }
 {
-    let mut end = at;
-    let mut i: usize = 0;
-    while i < 15 {
-        end = place_line(out, end, b"rings", table, i + 2);
-        i += 1;
+    for k in 2..17 {
+        place_line(out, b"rings", table, k);
     }
-    end
 }
 
-// All 25 lines, at the start of the lent buffer; their length is handed back.
-pub fn composed(out: &mut [u8; 65536], t: Totals) -> usize
-    ensures { (Wrote out.old 0 (chart_lines t) out.new result) × (result ≤ 65536) }
+// All 25 lines, and nothing else on the page.
+pub fn composed(out: &mut Page, t: Totals)
+    ensures { (out.new.items ≡ chart_lines t) × (array_vec_len out.new ≤ 65536) }
 {
-    let sheets = total_line(out, 0, b"sheets", t.sheets);
-    let ran = total_line(out, sheets, b"ran", t.ran);
-    let refused = total_line(out, ran, b"refused", t.refused);
-    let by_number = t.refused_with;
-    let numbered = refused_lines(out, refused, by_number);
-    let ringed = total_line(out, numbered, b"ringed", t.ringed);
-    let by_length = t.rings;
-    ring_lines(out, ringed, by_length)
+    out.clear();
+    total_line(out, b"sheets", t.sheets);
+    total_line(out, b"ran", t.ran);
+    total_line(out, b"refused", t.refused);
+    refused_lines(out, &t.refused_with);
+    total_line(out, b"ringed", t.ringed);
+    ring_lines(out, &t.rings);
 }

@@ -1,10 +1,6 @@
 -- A drain is told by what the board makes of it at once, and done one delivery after another, so that each sender is known: both end with
 -- the same board. Assumes only that the board's tables have their sizes, as every board of the program has.
-use mathlib.Core.Path.{◌≡◌, refl, sym, ap, subst, ◌∙◌}
-use mathlib.Core.Bool.{true, false}
-use Prim.Native.Nat.{ℕ, zero, suc}
-use borrow.Author.Tests.{ltb-true}
-use lib.Dec.{ltb}
+use Rattle.std.proofs.Common.{◌≡◌, refl, sym, ap, subst, ◌∙◌, true, false, ℕ, zero, suc, ltb-true, ltb}
 use Rattle.rules.specs.declared.Board.{Board}
 use Rattle.rules.specs.declared.Drained.{Drained}
 use Rattle.rules.specs.Bits.{lowest_taken}

@@ -7,6 +7,7 @@ mod senders;
 
 ghost use Rattle.std.specs.Prelude.{◌≡◌};
 ghost use Rattle.desk.specs.Desks as Desks;
+ghost use Rattle.desk.specs.declared.Follows.TheVariants as Then;
 
 use rules::{Answer, Board};
 use senders::Site;
@@ -19,17 +20,24 @@ pub struct Desk {
     pub command: Typed,
 }
 
-// What came of a line: the desk after it, the board's answer, how many deliveries a drain made, and the number of the message that
-// arrived, 64 where none did. And what follows: the desk was changed, the last change is to be taken back, or the input is left.
+// What follows a line: nothing, the desk was changed, the last change is to be taken back, or the input is left.
+#[derive(Clone, Copy, PartialEq, Eq)]
+pub enum Follows {
+    Nothing,
+    Change,
+    Undo,
+    End,
+}
+
+// What came of a line: the desk after it, the board's answer, how many deliveries a drain made, the number of the message that arrived,
+// None where none did, and what follows.
 #[derive(Clone, Copy)]
 pub struct Acted {
     pub desk: Desk,
     pub answer: Answer,
     pub made: usize,
-    pub arrived: usize,
-    pub changed: bool,
-    pub undo: bool,
-    pub ended: bool,
+    pub arrived: Option<usize>,
+    pub follows: Follows,
 }
 
 // ---- desks
@@ -55,85 +63,86 @@ pub fn closed() -> Desk
 fn moved(desk: Desk, board: Board, site: Site, command: Typed) -> Desk
     ensures { result ≡ Desks.moved desk board site command }
 {
-    let old = desk.board;
-    let senders = desk.senders;
-    let senders = senders::after(senders, old.occupied, board.occupied, site);
     Desk {
         board,
-        senders,
+        senders: senders::after(desk.senders, desk.board.occupied, board.occupied, site),
         command,
     }
 }
 
 // ---- what came of a line
-// The desk, and what the board answered.
-fn told(desk: Desk, answer: Answer, made: usize, arrived: usize, changed: bool) -> Acted
-    ensures { result ≡ Desks.told desk answer made arrived changed }
-{
-    Acted {
-        desk,
-        answer,
-        made,
-        arrived,
-        changed,
-        undo: false,
-        ended: false,
-    }
-}
-
 // Nothing was asked of the board.
-fn silent(desk: Desk, undo: bool, ended: bool) -> Acted
-    ensures { result ≡ Desks.silent desk undo ended }
+fn stay(desk: Desk) -> Acted
+    ensures { result ≡ Desks.stay desk }
 {
     Acted {
         desk,
         answer: Answer::Done,
         made: 0,
-        arrived: 64,
-        changed: false,
-        undo,
-        ended,
+        arrived: None,
+        follows: Follows::Nothing,
+    }
+}
+
+// The desk was changed.
+fn changed(desk: Desk) -> Acted
+    ensures { result ≡ Desks.silent desk Then.Change }
+{
+    Acted {
+        follows: Follows::Change,
+        ..stay(desk)
     }
 }
 
 // An opening: a new desk where it is not refused.
+#[tactic(auto, unfolding(crate::specs::Desks::opened))]
 fn open(desk: Desk, t: Typed) -> Acted
     ensures { result ≡ Desks.opened desk t }
 {
     let s = asked::opened(t);
     let answer = s.answer;
-    if values::answer::number(answer) != 0 {
-        return told(desk, answer, 0, 64, false);
+    if !answer.is_done() {
+        return Acted {
+            answer,
+            ..stay(desk)
+        };
     }
-    let board = s.board;
-    told(cleared(board, t), answer, 0, 64, true)
+    Acted {
+        answer,
+        ..changed(cleared(s.board, t))
+    }
 }
 
 // A command: the board that it made where it is not refused, and its messages sent from where it acted.
+#[tactic(auto, unfolding(crate::specs::Desks::stepped))]
 fn step(desk: Desk, t: Typed) -> Acted
     ensures { result ≡ Desks.stepped desk t }
 {
-    let old = desk.board;
     let command = asked::command(t);
-    let site = senders::acts_at(old, command);
-    let s = bench::step(old, command);
+    let site = senders::acts_at(desk.board, command);
+    let s = bench::step(desk.board, command);
     let answer = s.answer;
-    if values::answer::number(answer) != 0 {
-        return told(desk, answer, 0, 64, false);
+    if !answer.is_done() {
+        return Acted {
+            answer,
+            ..stay(desk)
+        };
     }
-    let board = s.board;
-    told(moved(desk, board, site, t), answer, 0, site.freed, true)
+    Acted {
+        answer,
+        arrived: site.freed,
+        ..changed(moved(desk, s.board, site, t))
+    }
 }
 
 // One delivery, of the lowest number in flight.
+#[tactic(auto, unfolding(crate::specs::Desks::drained_once))]
 fn drain_one(desk: Desk, command: Typed) -> Desk
     ensures { result ≡ Desks.drained_once desk command }
 {
-    let old = desk.board;
-    let site = senders::delivery(old, values::bits::lowest(old.occupied));
-    let d = bench::drain(old, 1);
-    let board = d.board;
-    moved(desk, board, site, command)
+    let site = senders::delivery(desk.board, values::bits::lowest(desk.board.occupied));
+    let d = bench::drain(desk.board, 1);
+    moved(desk, d.board, site, command)
 }
 
 // One delivery after another, so that each message's sender is known.
@@ -141,45 +150,60 @@ fn drained(start: Desk, made: usize, command: Typed) -> Desk
     ensures { result ≡ Desks.drained_times made start command }
 {
     let mut desk = start;
-    let mut i: usize = 0;
-    while i < made {
+    for _i in 0..made {
         desk = drain_one(desk, command);
-        i += 1;
     }
     desk
 }
 
 // A drain, or a follow, which is a drain that is told delivery by delivery: as many deliveries as the board makes of it.
+#[tactic(auto, unfolding(crate::specs::Desks::drained))]
 fn drain(desk: Desk, t: Typed) -> Acted
     ensures { result ≡ Desks.drained desk t }
 {
     let d = bench::drain(desk.board, asked::budget(t));
-    let answer = d.answer;
-    let made = d.made;
-    told(drained(desk, made, t), answer, made, 64, made != 0)
+    let follows = if d.made == 0 {
+        Follows::Nothing
+    } else {
+        Follows::Change
+    };
+    Acted {
+        answer: d.answer,
+        made: d.made,
+        follows,
+        ..stay(drained(desk, d.made, t))
+    }
 }
 
 // What a verb and its numbers do.
+#[tactic(auto, unfolding(crate::specs::Desks::by_verb))]
 fn by_verb(desk: Desk, t: Typed) -> Acted
     ensures { result ≡ Desks.by_verb t.verb desk t }
 {
-    let verb = t.verb;
-    match verb {
+    match t.verb {
         Verb::Open => open(desk, t),
         Verb::Request | Verb::Release | Verb::Deliver => step(desk, t),
         Verb::Drain | Verb::Follow => drain(desk, t),
-        Verb::Undo => silent(desk, true, false),
-        Verb::Quit => silent(desk, false, true),
-        _ => silent(desk, false, false),
+        Verb::Undo => Acted {
+            follows: Follows::Undo,
+            ..stay(desk)
+        },
+        Verb::Quit => Acted {
+            follows: Follows::End,
+            ..stay(desk)
+        },
+        _ => stay(desk),
     }
 }
 
 // What a line does to the desk. One that is no whole command does nothing.
+#[tactic(auto, unfolding(crate::specs::Desks::acted))]
 pub fn act(desk: Desk, t: Typed) -> Acted
     ensures { result ≡ Desks.acted desk t }
 {
     if asked::line::is_whole(t) {
-        return by_verb(desk, t);
+        by_verb(desk, t)
+    } else {
+        stay(desk)
     }
-    silent(desk, false, false)
 }

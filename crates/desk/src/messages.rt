@@ -10,16 +10,13 @@ use rules::{Board, Entries, Kind};
 fn goes_to(kind: Kind, list: Entries, b: Board) -> u8
     ensures { result ≡ goes_to kind list b }
 {
-    let process_home = b.process_home;
-    let object_home = b.object_home;
-    let who = list.who;
     match kind {
         Kind::Free => 0,
-        Kind::Request(_, o, _) => at(object_home, o),
-        Kind::Grant(p, _, _) => at(process_home, p),
-        Kind::Release(_, o) => at(object_home, o),
-        Kind::ListToHome => at(process_home, at(who, list.next)),
-        Kind::ListToObject(o) => at(object_home, o),
+        Kind::Grant(p, _, _) => at(b.process_home, p),
+        Kind::ListToHome => at(b.process_home, at(list.who, list.next)),
+        Kind::Request(_, o, _) | Kind::Release(_, o) | Kind::ListToObject(o) => {
+            at(b.object_home, o)
+        }
     }
 }
 
@@ -28,20 +25,18 @@ pub fn arrives_at(b: Board, n: usize) -> u8
     ensures { result ≡ destination b n }
 {
     if n < 64 {
-        let flight = b.flights[n];
-        let kind = flight.kind;
-        let list = b.lists[n];
-        return goes_to(kind, list, b);
+        goes_to(b.flights[n].kind, b.lists[n], b)
+    } else {
+        0
     }
-    0
 }
 
 // The messages that were sent: in flight after, and not before, or freed in between.
-pub fn sent(before: u64, after: u64, freed: usize) -> u64
+pub fn sent(before: u64, after: u64, freed: Option<usize>) -> u64
     ensures { Senders.Sent before after freed result }
 {
-    if freed < 64 {
-        return after & (!before | (1 << freed));
+    match freed {
+        Some(n) if n < 64 => after & (!before | (1 << n)),
+        _ => after & !before,
     }
-    after & !before
 }

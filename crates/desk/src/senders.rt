@@ -4,34 +4,30 @@ ghost use Rattle.desk.specs.Senders as Senders;
 
 use crate::messages::{arrives_at, sent};
 use rules::{Board, Command};
-use values::bits::wide;
+use std::array;
+use values::bits::has;
 
 // The number at a place of a row of 16; 0 past its end.
 pub fn at(row: [u8; 16], k: u8) -> u8
     ensures { result ≡ get_or row k 0 }
 {
-    let i = wide(k);
-    if i < 16 {
-        return row[i];
-    }
-    0
+    row.get(usize::from(k)).copied().unwrap_or(0)
 }
 
 // ---- where a command acts
-// The node that acts, and the message number that is freed; 64, which is none, where nothing arrives.
-#[derive(Clone, Copy)]
+// The node that acts, and the message number that is freed; None where nothing arrives.
+#[derive(Clone, Copy, PartialEq, Eq)]
 pub struct Site {
     pub node: u8,
-    pub freed: usize,
+    pub freed: Option<usize>,
 }
 
 fn home(b: Board, p: u8) -> Site
     ensures { result ≡ Senders.at_home b p }
 {
-    let process_home = b.process_home;
     Site {
-        node: at(process_home, p),
-        freed: 64,
+        node: at(b.process_home, p),
+        freed: None,
     }
 }
 
@@ -41,43 +37,27 @@ pub fn delivery(b: Board, n: usize) -> Site
 {
     Site {
         node: arrives_at(b, n),
-        freed: n,
+        freed: Some(n),
     }
 }
 
 // A request and a release act at the home of the process.
+#[tactic(auto, unfolding(crate::specs::Senders::acts_at))]
 pub fn acts_at(b: Board, c: Command) -> Site
     ensures { result ≡ Senders.acts_at b c }
 {
     match c {
-        Command::Request(p, _, _) => home(b, p),
-        Command::Release(p, _) => home(b, p),
-        Command::Deliver(n) => delivery(b, wide(n)),
+        Command::Request(p, _, _) | Command::Release(p, _) => home(b, p),
+        Command::Deliver(n) => delivery(b, usize::from(n)),
     }
 }
 
 // ---- the senders
-fn sender(marked: bool, node: u8, other: u8) -> u8
-    ensures { result ≡ Senders.sender marked node other }
-{
-    if marked {
-        return node;
-    }
-    other
-}
-
 // The senders, where those of a set are one node.
 fn marked(senders: [u8; 64], set: u64, node: u8) -> [u8; 64]
     ensures { result ≡ Senders.marked senders set node }
 {
-    let mut r = [0u8; 64];
-    let mut i: u8 = 0;
-    while i < 64 {
-        let k = wide(i);
-        r[k] = sender(values::bits::has(set, i), node, senders[k]);
-        i += 1;
-    }
-    r
+    array::from_fn(|k| if has(set, k as u8) { node } else { senders[k] })
 }
 
 // The senders after a command that acted at a site: it sent what it put in flight, and the others are as they were.

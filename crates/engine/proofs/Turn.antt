@@ -1,12 +1,11 @@
 -- What a turn answers and makes, by the parts that the engine asks: the refusals but the load, then the load, or the number in flight.
-use mathlib.Core.Path.{◌≡◌, refl, sym, ◌∙◌}
+use mathlib.Core.Path.{◌≡◌, refl, sym, ap, ◌∙◌}
 use mathlib.Core.Logic.{◌≢◌}
 use mathlib.Core.Bool.{Bool, true, false, not}
 use mathlib.Core.List.{List, [], ◌∷◌}
 use Prim.Native.Nat.{ℕ, zero, suc, ◌≤◌, ◌<◌}
 use native.Mathlib.Omega.{arith}
-use native.Mathlib.Decide.{ℕ_discrete, dec_lt}
-use borrow.Author.Tests.{ne_eqb, lt-ltb, le-ltb}
+use borrow.Author.Tests.{ne_eqb, lt-ltb, le-ltb, ltb-false}
 use lib.Dec.{eqb, ltb, leb}
 use Rattle.rules.specs.declared.Board.{Board}
 use Rattle.rules.specs.declared.Process.{Process}
@@ -20,6 +19,7 @@ use Rattle.rules.specs.declared.Answer.TheVariants.{Done, NoProcess, NoObject, N
 use Rattle.rules.specs.Tables.{pick}
 use Rattle.rules.specs.Bits.{taken}
 use Rattle.rules.specs.Answers.{number, done, first_of}
+use Rattle.rules.proofs.Tables.{true_not_false}
 use Rattle.rules.specs.Home.{is_waiting, holding}
 use Rattle.rules.specs.Lists.{no_entries, plain}
 use Rattle.rules.specs.Board.{process_at, put_process, send, kind_load, load}
@@ -33,17 +33,26 @@ pub record Turns (b : Board) (c : Command) (n : ℕ) (y : Board) : Type 0 where
   pub answer : number (turn b c).answer ≡ n
   pub board : (turn b c).board ≡ y
 
-refuses : (b : Board) (c : Command) (a : Answer) → answer_to b c ≡ a → number a ≢ 0 → Turns b c (number a) b
+refuses : (b : Board) (c : Command) (a : Answer) → answer_to b c ≡ a → done a ≡ false → Turns b c (number a) b
 unfolding turn
-refuses b c a e h = record { answer = rw e; board = rw (e, ne_eqb (number a) 0 h) }
+refuses b c a e f = record { answer = rw e; board = rw (e, f) }
 
-accepts : (b : Board) (c : Command) → answer_to b c ≡ Done → Turns b c 0 (effect b c)
+accepts : (b : Board) (c : Command) (a : Answer) → answer_to b c ≡ a → done a ≡ true → Turns b c (number a) (effect b c)
 unfolding turn
-accepts b c e = record { answer = rw e; board = rw e }
+accepts b c a e f = record { answer = rw e; board = rw (e, f) }
 
 -- ---- the load is the last test
 abbrev with_load : Answer → Bool → Answer
 with_load a heavy = pick (done a) (pick heavy LoadTooHigh Done) a
+
+-- what is done is not above the load's limit
+light : (a : Answer) (heavy : Bool) → done (with_load a heavy) ≡ true → heavy ≡ false
+light a heavy e = go (done a) heavy refl e
+  where
+    go : (d heavy : Bool) → done a ≡ d → done (pick d (pick heavy LoadTooHigh Done) a) ≡ true → heavy ≡ false
+    go true true f g = absurd (true_not_false (sym g))
+    go true false f g = refl
+    go false heavy f g = absurd (true_not_false (sym g ∙ f))
 
 request_chain : (t3 t4 t6 t7 t8 heavy : Bool)
     → first_of ((t3, NoProcess) ∷ (t4, NoObject) ∷ (false, NoMode) ∷ (t6, ProcessWaits) ∷ (t7, HasReleased) ∷ (t8, HoldsAlready) ∷ (heavy, LoadTooHigh) ∷ [])
@@ -66,11 +75,12 @@ release_chain false false true t9 heavy = refl
 release_chain false false false true heavy = refl
 release_chain false false false false heavy = refl
 
--- the ways of a request or a release, by its home's answer a, at load w; the highest load at which it is taken
-pub record HomeWays (b : Board) (c : Command) (a most w : ℕ) (new : Board) : Type 0 where
-  pub refused : a ≢ 0 → Turns b c a b
-  pub accepted : a ≡ 0 → Turns b c a new
-  pub fits : a ≡ 0 → w ≤ most
+-- the ways of a request or a release, by the number n of its home's answer, and whether that is done, at load w; the highest load at
+-- which it is taken
+pub record HomeWays (b : Board) (c : Command) (n : ℕ) (d : Bool) (most w : ℕ) (new : Board) : Type 0 where
+  pub refused : d ≡ false → Turns b c n b
+  pub accepted : d ≡ true → Turns b c n new
+  pub fits : d ≡ true → w ≤ most
 
 -- ---- a command by its kind
 module _ (b : Board) (p o n : ℕ) where
@@ -102,36 +112,20 @@ module _ (b : Board) (p o n : ℕ) where
 
   -- ---- the ways of a turn, by the answer that the code has in hand
   module _ (k : ℕ) (h : k < 3) (book : Process) (eb : book ≡ process_at b p) (w : ℕ) (ew : w ≡ load b) where
-    abbrev at_home : ℕ
+    abbrev at_home : Answer
     at_home = book_answer k p o b.process_count b.object_count book
 
-    at-home : at_home ≡ number (first_of (home_tests k (process_at b p)))
+    chain : answer_to b (packed k) ≡ load_tested at_home (top_load k) w
     unfolding book_answer
-    at-home = rw eb
+    chain = home_answers k h ∙ rw (eb, ew)
 
-    chain : answer_to b (packed k) ≡ with_load (first_of (home_tests k (process_at b p))) (ltb (top_load k) w)
-    chain = home_answers k h ∙ rw ew
-
-    home_refuses : at_home ≢ 0 → Turns b (packed k) at_home b
-    home_refuses z = rw at-home (refuses b (packed k) (first_of (home_tests k (process_at b p))) (chain ∙ rw (ne_eqb _ 0 (λ e. z (at-home ∙ e)))) (λ e. z (at-home ∙ e)))
-
-    loaded : at_home ≡ 0 → answer_to b (packed k) ≡ pick (ltb (top_load k) w) LoadTooHigh Done
-    loaded z = chain ∙ rw (← at-home, z)
-
-    load_refuses : at_home ≡ 0 → top_load k < w → Turns b (packed k) 10 b
-    load_refuses z l = refuses b (packed k) LoadTooHigh (loaded z ∙ rw (lt-ltb (top_load k) w l)) (λ e. omega (arith, e))
-
-    load_accepts : at_home ≡ 0 → w ≤ top_load k → Turns b (packed k) 0 (made k)
-    load_accepts z l = rw (← home_makes k h) (accepts b (packed k) (loaded z ∙ rw (le-ltb (top_load k) w l)))
-
-    pub home_ways : (a : ℕ) → a ≡ load_tested at_home (top_load k) w → HomeWays b (packed k) a (top_load k) w (made k)
-    home_ways a ea = elim (ℕ_discrete at_home 0) [
-      | yes z ↦ elim (dec_lt (top_load k) w) [
-        | yes l ↦ let e : a ≡ 10 = ea ∙ rw (z, lt-ltb (top_load k) w l) in record { refused = λ _. rw e (load_refuses z l); accepted = λ f. absurd (omega (arith, e, f)); fits = λ f. absurd (omega (arith, e, f)) }
-        | no n ↦ let l : w ≤ top_load k = omega (arith, n) in let e : a ≡ 0 = ea ∙ rw (z, le-ltb (top_load k) w l) in record { refused = λ f. absurd (f e); accepted = λ _. rw e (load_accepts z l); fits = λ _. l }
-      ]
-      | no n ↦ let e : a ≡ at_home = ea ∙ rw (ne_eqb at_home 0 n) in record { refused = λ _. rw e (home_refuses n); accepted = λ f. absurd (n (sym e ∙ f)); fits = λ f. absurd (n (sym e ∙ f)) }
-    ]
+    pub home_ways : (a : Answer) → a ≡ load_tested at_home (top_load k) w → (i : ℕ) → i ≡ number a → (d : Bool) → d ≡ done a → HomeWays b (packed k) i d (top_load k) w (made k)
+    home_ways a ea i ei d ed =
+        let e : answer_to b (packed k) ≡ a = chain ∙ sym ea in record {
+          refused = λ f. rw ei (refuses b (packed k) a e (sym ed ∙ f));
+          accepted = λ f. rw (ei, ← home_makes k h) (accepts b (packed k) a e (sym ed ∙ f));
+          fits = λ f. ltb-false (top_load k) w (light at_home (ltb (top_load k) w) (sym (ap done ea) ∙ sym ed ∙ f));
+        }
 
     -- what the code writes and sends
     pub makes : (i : ℕ) (new : Process) (out : Kind) (none : Entries) → i ≡ p → new ≡ book_after k book o → out ≡ kind_sent k p o → none ≡ no_entries
@@ -139,22 +133,22 @@ module _ (b : Board) (p o n : ℕ) where
     makes i new out none ei en es ez = rw (ei, en, es, ez, eb)
 
   -- the ways of a delivery
-  module _ (k : ℕ) (h : k < 4) (l : 3 ≤ k) (g : n < 64) (a : ℕ) (e : a ≡ pick (taken b.occupied n) 0 11) where
-    pub absent : a ≢ 0 → Turns b (packed k) a b
+  module _ (k : ℕ) (h : k < 4) (l : 3 ≤ k) (g : n < 64) (a : Answer) (e : a ≡ pick (taken b.occupied n) Done NoMessage) where
+    answers : answer_to b (packed k) ≡ a
     unfolding answer_to first_of
-    absent f = go (taken b.occupied n) refl
+    answers = rw (delivery k h l, lt-ltb n 64 g, e) (go (taken b.occupied n))
       where
-        go : (t : Bool) → taken b.occupied n ≡ t → Turns b (packed k) a b
-        go true z = absurd (f (e ∙ rw z))
-        go false z = let i : a ≡ 11 = e ∙ rw z in rw (i, delivery k h l) (refuses b (Do.Deliver n) NoMessage (rw (lt-ltb n 64 g, z)) (λ q. omega (arith, q)))
+        go : (t : Bool) → first_of ((not t, NoMessage) ∷ []) ≡ pick t Done NoMessage
+        go true = refl
+        go false = refl
 
-    pub present : a ≡ 0 → Turns b (packed k) a (delivered b n)
-    unfolding answer_to first_of effect
-    present f = go (taken b.occupied n) refl
-      where
-        go : (t : Bool) → taken b.occupied n ≡ t → Turns b (packed k) a (delivered b n)
-        go true z = rw (f, delivery k h l) (accepts b (Do.Deliver n) (rw (lt-ltb n 64 g, z)))
-        go false z = absurd (let i : a ≡ 11 = e ∙ rw z in omega (arith, i, f))
+    module _ (i : ℕ) (ei : i ≡ number a) (d : Bool) (ed : d ≡ done a) where
+      pub absent : d ≡ false → Turns b (packed k) i b
+      absent f = rw ei (refuses b (packed k) a answers (sym ed ∙ f))
+
+      pub present : d ≡ true → Turns b (packed k) i (delivered b n)
+      unfolding effect
+      present f = rw (ei, delivery k h l) (accepts b (Do.Deliver n) a (rw (← delivery k h l) answers) (sym ed ∙ f))
 
 pub top_most : (k : ℕ) → top_load k ≤ 63
 top_most k = go (eqb k 2)

@@ -2,14 +2,13 @@
 -- budget drains the board in hand.
 use mathlib.Core.Path.{◌≡◌, refl, sym, ap, ◌∙◌}
 use mathlib.Core.Logic.{◌⊎◌, inl, inr, ⊎_elim}
-use mathlib.Core.Bool.{Bool, true, false, not, ◌&&◌}
+use mathlib.Core.Bool.{Bool, true, false}
 use mathlib.Core.List.{List}
 use Prim.Native.Nat.{ℕ, zero, suc, ◌+◌, ◌-◌, ◌*◌, ◌/◌, ◌%◌, ◌≤◌, ◌<◌}
 use native.Mathlib.Omega.{arith}
-use native.Mathlib.Decide.{dec_lt}
 use native.Mathlib.Numerals.{add-one}
-use borrow.Author.Tests.{lt-ltb, le-ltb, le-leb, lt-leb, ltb-true, ltb-false, not-true, not-false}
-use lib.Dec.{ltb, leb}
+use borrow.Author.Tests.{lt-ltb, le-ltb, ltb-true, ltb-false, not-true, not-false}
+use lib.Dec.{ltb}
 use lib.ListN.{length, get_or, set, length-set}
 use Rattle.rules.specs.declared.Board.{Board}
 use Rattle.rules.specs.declared.Command.{Command}
@@ -29,6 +28,7 @@ use Rattle.rules.proofs.Bits.{lowest-taken}
 use Rattle.rules.proofs.Tables.{by_test, true_not_false}
 use Rattle.rules.proofs.Sheet.{of_bytes, command_bytes}
 use Rattle.engine.specs.Ready.{Ready}
+use Rattle.engine.specs.Next.{is_over, first_byte, second_byte}
 use Rattle.engine.specs.Work.{Reach, Worked}
 use Rattle.engine.proofs.Ready.{turn_ready}
 use Rattle.engine.proofs.Sends.{Made}
@@ -73,12 +73,6 @@ drains_on n b₀ i b v l g x f =
 drains_end : (n : ℕ) (b₀ : Board) (i : ℕ) (b : Board) → Drains n b₀ i b → i ≤ n → (i ≡ n) ⊎ (64 ≤ lowest_taken b.occupied) → record { answer = Done; made = i; board = b } ≡ draining n b₀
 drains_end n b₀ i b v l h = ap (λ (k : ℕ). record { answer = Done; made = k; board = b }) (omega arith) ∙ ap (more i) (sym (none_drained (n - i) b (⊎_elim (λ e. inl (omega (arith, e))) inr h))) ∙ v
 
-pub past_last : (n : ℕ) → leb 64 n ≡ not (ltb n 64)
-past_last n = elim (dec_lt n 64) [
-  | yes h ↦ lt-leb 64 n h ∙ sym (ap not (lt-ltb n 64 h))
-  | no h ↦ le-leb 64 n (omega (arith, h)) ∙ sym (ap not (le-ltb n 64 (omega (arith, h))))
-]
-
 -- ---- the loop
 pub record Working (drains : Bool) (b₀ : Board) (s r₀ : List ℕ) (most i : ℕ) (b : Board) (r : List ℕ) (w : ℕ) : Type 0 where
   pub within : i ≤ most
@@ -106,8 +100,8 @@ module _ (drains : Bool) (b₀ : Board) (s r₀ : List ℕ) (most i : ℕ) (b : 
       go true f = let z : at ≡ 0 = rw f at e in omega (arith, v.size, v.reach.drain f)
       go false f = let z : at ≡ i = rw f at e in omega (arith, v.size, (v.reach.sheet f).1)
 
-  module _ (over : Bool) (eo : over ≡ (drains && not (ltb (lowest_taken b.occupied) 64))) (no_end : over ≡ false)
-      (hi lo at a : ℕ) (eh : hi ≡ pick drains (192 + lowest_taken b.occupied % 64) (get_or s (2 * i) 0)) (hs : hi < 256) (el : lo ≡ pick drains 0 (get_or s (2 * i + 1) 0)) (ls : lo < 256) (ea : at ≡ pick drains 0 i)
+  module _ (no_end : is_over drains b.occupied ≡ false)
+      (hi lo at a : ℕ) (eh : hi ≡ first_byte drains s i b.occupied) (hs : hi < 256) (el : lo ≡ second_byte drains s i) (ls : lo < 256) (ea : at ≡ pick drains 0 i)
       (y : Board) (t : Turns b (of_bytes hi lo) a y) (x : Board) (u : ℕ) (m : Made x u y) where
     is_turn : x ≡ (turn b (of_bytes hi lo)).board
     is_turn = m.board ∙ sym t.board
@@ -137,7 +131,7 @@ module _ (drains : Bool) (b₀ : Board) (s r₀ : List ℕ) (most i : ℕ) (b : 
     -- the lowest number in flight
     module _ (e : drains ≡ true) where
       flies : lowest_taken b.occupied < 64
-      flies = ltb-true (lowest_taken b.occupied) 64 (not-false _ (sym (rw e at eo) ∙ no_end))
+      flies = ltb-true (lowest_taken b.occupied) 64 (not-false _ (rw e at no_end))
 
       delivery_is : of_bytes hi lo ≡ Do.Deliver (lowest_taken b.occupied)
       delivery_is =
@@ -171,10 +165,10 @@ module _ (drains : Bool) (b₀ : Board) (s r₀ : List ℕ) (most i : ℕ) (b : 
       ends : i ≡ most → b ≡ board_after b₀ s i → ◌≡◌ {A = Ran} (record { answer = Done; commands = i; board = b }) (record { answer = Done; commands = most; board = board_after b₀ s most })
       ends e g = rw (g, e)
 
-  pub none_left : (over : Bool) → over ≡ (drains && not (ltb (lowest_taken b.occupied) 64)) → over ≡ true → Worked drains b₀ s most r₀ (record { answer = Done; commands = i; board = b }) r
-  none_left over eo z = record {
-    sheet = λ f. absurd (true_not_false (sym z ∙ rw f at eo));
-    drain = λ f. drained f (inr (ltb-false (lowest_taken b.occupied) 64 (not-true _ (sym (rw f at eo) ∙ z))));
+  pub none_left : is_over drains b.occupied ≡ true → Worked drains b₀ s most r₀ (record { answer = Done; commands = i; board = b }) r
+  none_left z = record {
+    sheet = λ f. absurd (true_not_false (sym (rw f at z)));
+    drain = λ f. drained f (inr (ltb-false (lowest_taken b.occupied) 64 (not-true _ (rw f at z))));
   }
 
 -- ---- the uses

@@ -2,4 +2,5 @@
 pub mod Packed
 pub mod Grants
 pub mod Ready
+pub mod Next
 pub mod Work

@@ -13,9 +13,7 @@ pub fn grant_at(book: Object, k: u8, o: u8) -> Kind
     requires { k < 16 }
     ensures { result ≡ Kinds.Grant (Book.who_at book k) o (Book.mode_at book k) }
 {
-    let places = book.line;
-    let at = wide(k);
-    Kind::Grant(places[at], o, objects::mode_at(book, k))
+    Kind::Grant(book.line[wide(k)], o, objects::mode_at(book, k))
 }
 
 // The grants of a release after the first, to those next in the line as it stood, each under the lowest free number while there is
@@ -27,19 +25,17 @@ pub fn grant_rest(start: Board, book: Object, o: u8, granted: u8) -> Board
 {
     let mut b = start;
     let none = values::message::no_entries();
-    let mut k: u8 = 1;
-    while k < granted {
+    for k in 1..granted {
         let to = values::bits::lowest_free(b.occupied);
+        // 64 is no number, as in the definition `lowest_free` of the rules.
         if 64 <= to {
             break;
         }
-        let flight = Flight {
+        b.flights[to] = Flight {
             kind: grant_at(book, k, o),
         };
-        b.flights[to] = flight;
         b.lists[to] = none;
         b.occupied = values::bits::with(b.occupied, to as u8);
-        k += 1;
     }
     b
 }

@@ -7,6 +7,7 @@ ghost use Rattle.rules.specs.Board as Boards;
 ghost use Rattle.engine.specs.Ready.{Ready};
 ghost use Rattle.engine.specs.Work.{Reach, Worked};
 
+pub use crate::next::{Lowest, Source};
 use crate::packed::home_answer;
 use rules::{Answer, Board, Flight, Kind, Ran};
 use values::bits::wide;
@@ -15,38 +16,37 @@ mod grants;
 mod next;
 mod packed;
 
-// Each command of the slice, two bytes a command, on the board; each answer's number into the room. Or, where it `drains`, the lowest
-// number in flight is delivered again and again, until none is left. At most so many turns. The caller says the load at the start.
-pub fn turns(
+// Each command that the source gives, on the board; each answer's number into the room. At most so many turns. The caller says the load at
+// the start.
+pub fn turns<S: Source + Copy>(
     start: Board,
-    s: &[u8],
-    drains: bool,
+    source: S,
     most: usize,
     room: &mut [u8],
     loaded: usize,
 ) -> Ran
-    requires { Ready start × Reach drains s.now most room.old × (loaded ≡ Boards.load start) }
-    ensures { Worked drains start s.now most room.old result room.new }
+    requires { Ready start × Reach (S.drains source) (S.commands source) most room.old × (loaded ≡ Boards.load start) }
+    ensures { Worked (S.drains source) start (S.commands source) most room.old result room.new }
 {
     let mut b = start;
     let free = Flight { kind: Kind::Free };
     let none = values::message::no_entries();
     let mut load = loaded;
+    // A loop with a count of its own: how many turns were made is handed back, also where a drain ends before the last.
     let mut i: usize = 0;
     while i < most {
-        if crate::next::is_over(drains, b.occupied) {
-            break;
-        }
-        let hi = crate::next::first_byte(s, i, drains, b.occupied);
-        let lo = crate::next::second_byte(s, i, drains);
-        let at_room = crate::next::answer_place(i, drains);
+        let (hi, lo) = match source.command(i, b.occupied) {
+            Some(bytes) => bytes,
+            None => break,
+        };
+        let at_room = source.place(i);
         if crate::packed::is_at_home(hi) {
             let pi = wide((hi / 4) % 16);
             let book = b.processes[pi];
             let answer = home_answer(hi, lo, b.process_count, b.object_count, book, load);
-            room[at_room] = answer;
+            room[at_room] = u8::from(answer);
             i += 1;
-            if answer != 0 {
+            if !answer.is_done() {
                 continue;
             }
             let process = crate::packed::book_after(hi, lo, book);
@@ -62,9 +62,9 @@ pub fn turns(
         }
         let num = hi % 64;
         let answer = crate::packed::delivery_answer(b.occupied, num);
-        room[at_room] = answer;
+        room[at_room] = u8::from(answer);
         i += 1;
-        if answer != 0 {
+        if !answer.is_done() {
             continue;
         }
         let at = wide(num);
@@ -76,6 +76,7 @@ pub fn turns(
         b.lists[at] = none;
         b.occupied = values::bits::without(b.occupied, num);
         let to = values::bits::lowest_free(b.occupied);
+        // Each arm sends for itself: arms that meet at one send cost 4 to 9 parts in a hundred more time (docs/DECISIONS.md, One engine).
         match sort {
             Kind::Free => {}
             Kind::Request(q, x, mode) => {

@@ -1,56 +1,51 @@
 // A board stepped at a terminal: each line of the input is answered at once, until the input ends or says quit.
 #![tactic(auto)]
 
-use lines::{Feed, Line};
-use program::{Errors, Source, write};
+use desk::Follows;
+use lines::Lines;
+use program::{Errors, Source, Told};
+use session::Talk;
 use std::fs::File;
-use std::io::{Error, IsTerminal, StdinLock};
+use std::io::{Error, IsTerminal, Read, StdinLock};
 use undo::Kept;
 
-fn say_if(rt: &(impl Print + Errors), typing: bool, s: &[u8]) -> bool {
-    if typing {
-        return write(rt, s);
+// Why a session ends before its input: a write failed, which is told already, or a read did.
+#[derive(Drop)]
+enum Broken {
+    Write,
+    Read(Error),
+}
+
+impl From<Told> for Broken {
+    fn from(_told: Told) -> Broken {
+        Broken::Write
     }
-    true
 }
 
-fn greet(rt: &(impl Print + Errors), typing: bool) -> bool {
-    say_if(
-        rt,
-        typing,
-        b"A board to step by hand. help shows the commands; open 3 3 2 opens a board.\n",
-    )
+impl From<Error> for Broken {
+    fn from(why: Error) -> Broken {
+        Broken::Read(why)
+    }
 }
 
-// The next line. At a terminal it is asked for, and the end of the input ends the line that was asked for.
-fn asked<I: std::io::Read>(
-    rt: &(impl Print + Errors),
-    typing: bool,
-    from: &mut I,
-    piece: &mut [u8; 4096],
+// The next line. At a terminal it is asked for.
+fn asked<I: Read>(
+    talk: &Talk<impl Print + Errors>,
+    lines: &mut Lines<I>,
     room: &mut [u8; 1000],
-    start: Feed,
-) -> Line {
-    if !say_if(rt, typing, b"> ") {
-        return lines::no_line(start);
+) -> Result<Option<usize>, Broken> {
+    talk.ask_for_line()?;
+    let line = lines.next_line(room);
+    if !matches!(line, Ok(Some(_))) {
+        let _ = talk.end_line();
     }
-    let line = lines::next_line(from, piece, room, start);
-    if lines::is_over(line) {
-        say_if(rt, typing, b"\n");
-    }
-    line
+    Ok(line?)
 }
 
-// Each line is read, answered and done, and its desk put in its place; why a read failed, if one did. A write that fails ends the session.
-fn each_line<I: std::io::Read>(
-    rt: &(impl Print + Errors),
-    from: &mut I,
-    typing: bool,
-) -> Option<Error> {
-    let mut out = io::large_buffer();
-    let mut piece = io::buffer();
+// Each line is read, answered and done, and its desk put in its place, until the input ends or says quit.
+fn each_line<I: Read + Drop>(mut talk: Talk<impl Print + Errors>, from: I) -> Result<(), Broken> {
+    let mut lines = Lines::of(from);
     let mut room = [0u8; 1000];
-    let mut feed = Feed { at: 0, end: 0 };
     let mut past = [desk::closed(); 65];
     let mut kept = Kept {
         top: 0,
@@ -58,29 +53,27 @@ fn each_line<I: std::io::Read>(
         dropped: false,
     };
     for _ in 0..u64::MAX {
-        let line = asked(rt, typing, from, &mut piece, &mut room, feed);
-        if lines::is_over(line) {
-            return line.failed;
+        let Some(count) = asked(&talk, &mut lines, &mut room)? else {
+            break;
+        };
+        let desk = past[undo::place(kept)];
+        let acted = session::answered(desk, &room, count);
+        kept = undo::one_more(kept, acted.follows == Follows::Change);
+        past[undo::place(kept)] = acted.desk;
+        talk.answer(&room, count, &desk, &acted, kept)?;
+        if acted.follows == Follows::End {
+            break;
         }
-        feed = line.feed;
-        let top = undo::place(kept);
-        let desk = past[top];
-        let acted = session::answered(desk, &room, line.count);
-        kept = undo::one_more(kept, acted.changed);
-        let next = undo::place(kept);
-        let after = acted.desk;
-        past[next] = after;
-        let written = session::said(rt, &mut out, typing, &room, line.count, desk, acted, kept);
-        if acted.ended || !written {
-            return None;
-        }
-        kept = undo::one_less(kept, acted.undo);
+        kept = undo::one_less(kept, acted.follows == Follows::Undo);
     }
-    None
+    Ok(())
 }
 
 // What is read, by the argument; the text is what --help prints.
-fn started(rt: &HostRuntime, name: &mut [u8; 4096]) -> Source<StdinLock<'static>, File> {
+fn started<'a>(
+    rt: &HostRuntime,
+    name: &'a mut [u8; 4096],
+) -> Option<Source<'a, StdinLock<'static>, File>> {
     program::start(
         rt,
         b"hand steps a board by commands, one to a line, and says what each node can
@@ -102,14 +95,14 @@ written.
 
 fn main(rt: HostRuntime) {
     let mut name = io::buffer();
-    let Source::Reads { mut from, named } = started(&rt, &mut name) else {
+    let Some(Source { from, named }) = started(&rt, &mut name) else {
         return;
     };
-    let typing = from.is_terminal();
-    if !greet(&rt, typing) {
+    let talk = Talk::new(&rt, from.is_terminal());
+    if talk.greet().is_err() {
         return;
     }
-    if let Some(why) = each_line(&rt, &mut from, typing) {
-        program::read_failed(&rt, &name, named, why);
+    if let Err(Broken::Read(why)) = each_line(talk, from) {
+        program::read_failed(&rt, named, why);
     }
 }

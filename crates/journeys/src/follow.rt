@@ -1,66 +1,37 @@
 // The deliveries of a follow, each told with a write of its own: a drain is one delivery of the lowest number after another.
 use desk::Desk;
-use program::Errors;
-use typed::{Typed, Verb};
+use program::{Errors, Told};
+use std::io;
+use text::Page;
 use values::bits::lowest;
 
-// The words so far, in one write; whether it did not fail.
-pub fn print(rt: &(impl Print + Errors), out: &[u8; 65536], end: usize) -> bool {
-    program::write(rt, text::start(out, end))
-}
-
-// Where the words go on; what stands before that place is not written yet. And whether a write failed.
-#[derive(Clone, Copy)]
-pub struct Tail {
-    pub at: usize,
-    pub failed: bool,
+// The words so far, in one write; the page is empty after it.
+pub fn print(rt: &(impl Print + Errors), out: &mut Page) -> Result<(), Told> {
+    let printed = program::write(rt, out.as_slice());
+    out.clear();
+    printed
 }
 
 // One delivery, and the ring that it recorded.
-fn delivery(out: &mut [u8; 65536], at: usize, before: Desk, after: Desk) -> usize {
-    let old = before.board;
-    let new = after.board;
-    let told = crate::tell(out, at, before, after, lowest(old.occupied));
-    rings::recorded_since(out, told, b"      ring recorded: ", old, new)
+fn delivery(out: &mut Page, before: &Desk, after: &Desk) -> io::Result<()> {
+    let old = &before.board;
+    crate::tell(out, before, after, lowest(old.occupied))?;
+    rings::recorded_since(out, "      ring recorded: ", old, &after.board)
 }
 
-fn each(
-    rt: &(impl Print + Errors),
-    out: &mut [u8; 65536],
-    start: usize,
-    first: Desk,
-    made: usize,
-) -> Tail {
-    let mut desk = first;
-    let mut at = start;
-    for _ in 0..made {
-        let acted = desk::act(desk, typed::read(b"drain 1"));
-        let after = acted.desk;
-        let end = delivery(out, at, desk, after);
-        if !print(rt, out, end) {
-            return Tail {
-                at: 0,
-                failed: true,
-            };
-        }
-        at = 0;
-        desk = after;
-    }
-    Tail { at, failed: false }
-}
-
-// A line that is no follow has no delivery to tell.
+// So many deliveries, behind what stands on the page already. A page that is full is printed as far as it goes.
 pub fn tell(
     rt: &(impl Print + Errors),
-    out: &mut [u8; 65536],
-    at: usize,
-    before: Desk,
-    t: Typed,
+    out: &mut Page,
+    first: &Desk,
     made: usize,
-) -> Tail {
-    let verb = t.verb;
-    if let Verb::Follow = verb {
-        return each(rt, out, at, before, made);
+) -> Result<(), Told> {
+    let mut desk = *first;
+    for _ in 0..made {
+        let acted = desk::act(desk, typed::read(b"drain 1"));
+        let _full = delivery(out, &desk, &acted.desk);
+        print(rt, out)?;
+        desk = acted.desk;
     }
-    Tail { at, failed: false }
+    Ok(())
 }

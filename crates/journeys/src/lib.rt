@@ -5,104 +5,85 @@ pub mod follow;
 
 use desk::Desk;
 use desk::messages::{arrives_at, sent};
-use messages::{Said, is_list, under};
-use rules::Board;
-use values::bits::{has, lowest, wide};
-use words::{digit, either, item, number, row, say, text};
+use messages::{asked, is_list, named, under, way};
+use rules::{Board, Kind, Message};
+use std::io::{Result, Write};
+use text::Page;
+use values::bits::{lowest, wide};
+use words::{Members, row};
 
 // What arrived, and its way.
-fn arrival(out: &mut [u8; 65536], at: usize, n: usize, s: Said, from: u8, to: u8) -> usize {
-    let indented = text(out, at, b"  ");
-    let numbered = number(out, indented, n);
-    let told = say(
-        out,
-        numbered,
-        row(
-            b":|: request of p# for o# ?|: grant to p# of o# ?|: release by p# of o#|: list of p#|: list of p#|",
-            s.form,
-        ),
-        [s.first, s.second, s.mode, 0],
-    );
-    let moved = say(out, told, b", node # to node #", [from, to, 0, 0]);
-    say(
-        out,
-        moved,
-        row(b"||||, asks p#|, looks for p# in the line of o#|", s.form),
-        [s.asked, s.home_of, 0, 0],
-    )
-}
-
-// Where a list was sent.
-fn list_sent(out: &mut [u8; 65536], at: usize, list: Said, to: u8) -> usize {
-    say(
-        out,
-        at,
-        row(b"p#, node #|o#, node #|", digit(list.to_object)),
-        [list.home_of, to, 0, 0],
-    )
-}
-
-// Those to whom the sent messages grant.
-fn granted(out: &mut [u8; 65536], at: usize, b: Board, set: u64) -> usize {
-    let mut end = text(out, at, b"; granted to ");
-    let mut told: usize = 0;
-    let mut i: u8 = 0;
-    while i < 64 {
-        if !has(set, i) {
-            i += 1;
-            continue;
-        }
-        let grant = under(b, wide(i));
-        end = item(out, end, b"p#", told, [grant.first, 0, 0, 0], 99);
-        told += 1;
-        i += 1;
+fn arrival(out: &mut Page, n: usize, m: &Message, way: (u8, u8)) -> Result<()> {
+    let (from, to) = way;
+    let p = asked(&m.list);
+    write!(out, "  {n}")?;
+    named(out, m)?;
+    write!(out, ", node {from} to node {to}")?;
+    match m.kind {
+        Kind::ListToHome => write!(out, ", asks p{p}"),
+        Kind::ListToObject(o) => write!(out, ", looks for p{p} in the line of o{o}"),
+        _ => Ok(()),
     }
-    end
+}
+
+// To whom a message grants.
+fn grantee(out: &mut Page, m: Option<Message>) -> Result<()> {
+    match m {
+        Some(
+            Message {
+                kind: Kind::Grant(p, _, _),
+                ..
+            },
+        ) => write!(out, "p{p}"),
+        _ => Ok(()),
+    }
 }
 
 // What was sent: one list, or grants.
-fn sent_on(out: &mut [u8; 65536], at: usize, s: Said, b: Board, set: u64) -> usize {
+fn sent_on(out: &mut Page, m: &Message, b: &Board, set: u64) -> Result<()> {
     let n = lowest(set);
-    let first = under(b, n);
-    if is_list(first) {
-        let begun = either(
-            out,
-            at,
-            is_list(s),
-            b"; sent on to |; joins the line, list to |",
-        );
-        return list_sent(out, begun, first, arrives_at(b, n));
+    let Some(list) = under(b, n).filter(is_list) else {
+        write!(out, "; granted to ")?;
+        return row(out, 99, Members::of(set), |out, k| {
+            grantee(out, under(b, wide(k)))
+        });
+    };
+    let begun = if is_list(m) {
+        "sent on to"
+    } else {
+        "joins the line, list to"
+    };
+    write!(out, "; {begun} ")?;
+    match list.kind {
+        Kind::ListToObject(o) => write!(out, "o{o}")?,
+        _ => write!(out, "p{}", asked(&list.list))?,
     }
-    granted(out, at, b, set)
+    write!(out, ", node {}", arrives_at(*b, n))
 }
 
 // Nothing was sent. A list that recorded no ring has ended.
-fn came_to_rest(out: &mut [u8; 65536], at: usize, s: Said, old: Board, new: Board) -> usize {
-    if !is_list(s) {
-        return at;
+fn came_to_rest(out: &mut Page, m: &Message, old: &Board, new: &Board) -> Result<()> {
+    if !is_list(m) {
+        return Ok(());
     }
-    either(
-        out,
-        at,
-        sums::tally(new) == sums::tally(old),
-        b"; ends|; closes a ring|",
-    )
+    if sums::tally(*new) == sums::tally(*old) {
+        write!(out, "; ends")
+    } else {
+        write!(out, "; closes a ring")
+    }
 }
 
 // What arrived under a number, what was sent, and that a list came to its end.
-pub fn tell(out: &mut [u8; 65536], at: usize, before: Desk, after: Desk, n: usize) -> usize {
-    if n < 64 {
-        let old = before.board;
-        let new = after.board;
-        let s = under(old, n);
-        let set = sent(old.occupied, new.occupied, n);
-        let told = arrival(out, at, n, s, before.senders[n], arrives_at(old, n));
-        if set == 0 {
-            let ended = came_to_rest(out, told, s, old, new);
-            return text(out, ended, b"\n");
-        }
-        let moved = sent_on(out, told, s, new, set);
-        return text(out, moved, b"\n");
+pub fn tell(out: &mut Page, before: &Desk, after: &Desk, n: usize) -> Result<()> {
+    let old = &before.board;
+    let new = &after.board;
+    let Some(m) = under(old, n) else {
+        return Ok(());
+    };
+    arrival(out, n, &m, way(before, n))?;
+    match sent(old.occupied, new.occupied, Some(n)) {
+        0 => came_to_rest(out, &m, old, new)?,
+        set => sent_on(out, &m, new, set)?,
     }
-    at
+    writeln!(out)
 }

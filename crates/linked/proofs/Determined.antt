@@ -1,13 +1,11 @@
 -- The contract of the linked function determines the number and every byte of the lent room.
-use mathlib.Core.Path.{refl}
+use Rattle.std.proofs.Common.{refl, ℕ, List}
 use seplogic.Ra.Ura.{Ura}
 use base.Logic.{SProp}
 use prog.Memory.{Memory}
 use prog.Routine.{Routine}
 use types.Logic.{Logic}
 use contract.Monad.{Fun}
-use Prim.Native.Nat.{ℕ}
-use mathlib.Core.List.{List}
 use Rattle.rules.specs.Answers as Answers
 use Rattle.rules.specs.Sheet as Sheet
 use Rattle.rules.specs.Determined.{Determined}

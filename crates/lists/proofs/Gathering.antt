@@ -1,19 +1,16 @@
 -- How a list grows: whom it has then, and that those who are listed already, and those who do not pass, may be left out.
-use mathlib.Core.Path.{◌≡◌, refl, sym, ap, ◌∙◌}
-use mathlib.Core.Bool.{Bool, true, false, ◌&&◌}
-use mathlib.Core.List.{List, [], ◌∷◌, ◌++◌}
-use Prim.Native.Nat.{ℕ, zero, suc, ◌+◌, ◌≤◌, ◌<◌}
-use native.Mathlib.Omega.{arith}
-use native.Mathlib.Numerals.{add-one}
-use native.Mathlib.Decide.{dec_lt, ℕ_discrete}
-use lib.Dec.{eqb}
-use lib.ListN.{length, set}
-use lib.Seq.{get_or-set_same, get_or-set_other}
+use Rattle.std.proofs.Common.{◌≡◌, refl, sym, ap, ◌∙◌, Bool, true, false, not, ◌&&◌, List, [], ◌∷◌, ◌++◌, ℕ, zero, suc, ◌≤◌, ◌<◌, arith, add-one, zero-add, eqb, length, take, get_or}
+use Rattle.std.proofs.Math.Decide.{dec_lt, ℕ_discrete}
+use Rattle.std.proofs.Math.Seq.{get_or-set_same, get_or-set_other}
+use Rattle.std.proofs.lemmas.List.{get_or-take, length-take-le}
+use Rattle.std.proofs.lemmas.List.FromFn.{get_or-enumerate_from, length-enumerate_from}
+use Rattle.std.specs.List.{list_any, enumerate_from}
 use borrow.Author.Tests.{eq-eqb, ne_eqb, eqb-true}
 use Rattle.rules.specs.declared.Entries.{Entries}
-use Rattle.rules.specs.Tables.{pick, either, rows, collect, among}
+use Rattle.rules.specs.Tables.{pick, either, rows, all, collect, among}
 use Rattle.rules.specs.Lists.{entry_at, listed, longer, add_one, add_all}
-use Rattle.rules.proofs.Tables.{by_test, true_not_false, rows_last, rows_ext, among_append, collect_last}
+use Rattle.values.proofs.Rows.{any_all}
+use Rattle.rules.proofs.Tables.{all_ext, by_test, true_not_false, rows_last, rows_ext, among_append, collect_last}
 use Rattle.rules.proofs.Lists.{listed_is, is_listed, entry_grown, add_one_listed, add_one_new, add_one_grown, add_all_grown}
 
 pub eqb_swap : (a b : ℕ) → eqb a b ≡ eqb b a
@@ -39,22 +36,32 @@ among_more q t f n = rw (collect_last t f n, among_append) (ap (either (among q 
     last true = one_among (f n) q
     last false = refl
 
-module _ (q : ℕ) (t : ℕ → Bool) (f : ℕ → ℕ) (n : ℕ) (h : among q (collect t f n) ≡ false) where
-  pub not_the_next : (f n ≡ q → ⊥) → among q (collect t f (n + 1)) ≡ false
-  not_the_next e = rw (add-one, among_more, h, ne_eqb (f n) q e) (neither (t n))
-    where
-      neither : (b : Bool) → b && false ≡ false
-      neither true = refl
-      neither false = refl
+-- q is one of those who pass where some place is q's and passes
+some_among : (q : ℕ) (t : ℕ → Bool) (f : ℕ → ℕ) (n : ℕ) → not (all n (λ k. not (eqb (f k) q && t k))) ≡ among q (collect t f n)
+unfolding all among collect
+some_among q t f zero = refl
+some_among q t f (suc n) = last (all n (λ k. not (eqb (f k) q && t k))) (eqb (f n) q) (t n) ∙ ap (λ (b : Bool). either b (t n && eqb (f n) q)) (some_among q t f n) ∙ sym (among_more q t f n)
+  where
+    last : (a b c : Bool) → not (a && not (b && c)) ≡ either (not a) (c && b)
+    last true true true = refl
+    last true true false = refl
+    last true false true = refl
+    last true false false = refl
+    last false b c = refl
 
-  pub next_fails : t n ≡ false → among q (collect t f (n + 1)) ≡ false
-  next_fails e = rw (add-one, among_more, h, e)
+-- a test of the first n places, each with its number, that finds q where it passes
+pub any_among : (q : ℕ) (t : ℕ → Bool) (p : ℕ × ℕ → Bool) (xs : List ℕ) (n : ℕ) → n ≤ length xs → ((k : ℕ) → p (k, get_or xs k 0) ≡ eqb (get_or xs k 0) q && t k)
+    → list_any p (enumerate_from 0 (take n xs)) ≡ among q (collect t (λ k. get_or xs k 0) n)
+any_among q t p xs n inside same =
+    let size : length (enumerate_from 0 (take n xs)) ≡ n = length-enumerate_from 0 (take n xs) ∙ length-take-le n xs inside in
+    any_all p (enumerate_from 0 (take n xs)) (0, 0) ∙ rw size (ap not (all_ext n _ (λ k. not (eqb (get_or xs k 0) q && t k)) (λ k h. ap not (place k h))) ∙ some_among q t (λ k. get_or xs k 0) n)
+  where
+    place : (k : ℕ) → k < n → p (get_or (enumerate_from 0 (take n xs)) k (0, 0)) ≡ eqb (get_or xs k 0) q && t k
+    place k h =
+        let z : k < length (take n xs) = omega (arith, length-take-le n xs inside) in
+        rw (get_or-enumerate_from 0 (take n xs) k (0, 0) z, get_or-take n xs k 0 h) (rw zero-add (same k))
 
 -- ---- one more entry
--- the list with process q at its end, which is written at a place
-abbrev pub longer_at : Entries → ℕ → ℕ → ℕ → Entries
-longer_at l end q lead = record { who = set l.who end q; leads = set l.leads end lead; count = l.count + 1; next = l.next }
-
 pub listed_longer : (l : Entries) (q lead k : ℕ) → l.count < length l.who → listed (longer l q lead) k ≡ either (listed l k) (eqb q k)
 unfolding listed
 listed_longer l q lead k h =

@@ -1,24 +1,23 @@
 -- The loops that gather: what adding has done after some turns, and what one more turn does.
-use mathlib.Core.Path.{◌≡◌, refl, sym, ap, ◌∙◌}
+use Rattle.std.proofs.Common.{◌≡◌, refl, sym, ap, ◌∙◌, Bool, true, false, not, ◌&&◌, List, ℕ, suc, ◌+◌, ◌≤◌, ◌<◌, ◌^◌, arith, add-one, eqb, leb, length, take, get_or}
+use Rattle.std.proofs.Math.Decide.{dec_lt, ℕ_discrete}
+use Rattle.std.proofs.lemmas.List.{get_or-take, length-take}
 use mathlib.Core.Logic.{◌≢◌}
-use mathlib.Core.Bool.{Bool, true, false, ◌&&◌}
-use Prim.Native.Nat.{ℕ, suc, ◌+◌, ◌≤◌, ◌<◌}
-use native.Mathlib.Omega.{arith}
-use native.Mathlib.Numerals.{add-one}
-use native.Mathlib.Decide.{dec_lt, ℕ_discrete}
-use lib.Dec.{eqb, leb}
-use lib.ListN.{length}
 use lib.Pow.{pow_pos}
 use borrow.Author.Tests.{eq-eqb, ne_eqb, le-leb, lt-leb, leb-true}
 use Rattle.rules.specs.declared.Entries.{Entries}
+use Rattle.rules.specs.declared.Mode.{Mode}
+use Rattle.rules.specs.declared.Object.{Object}
+use Rattle.rules.specs.Book.{conflict, mode_at, who_at, bars}
+use Rattle.rules.specs.Ranges.{LineRanged}
 use Rattle.rules.specs.Tables.{pick, either, rows, collect, among}
 use Rattle.rules.specs.Bits.{taken, with_bit, without_bit, lowest_taken}
 use Rattle.rules.specs.Lists.{listed, add_one, add_all}
-use Rattle.rules.proofs.Bits.{taken_with, taken_without, without_same, without_other, taken_le, taken_zero, taken_below, lowest-taken, lowest_taken_before}
+use Rattle.rules.proofs.Bits.{taken_with, taken_without, without_same, without_other, taken_le, taken_zero, taken_below, lowest-taken, lowest_taken_before, lowest_taken_below}
 use Rattle.rules.proofs.Tables.{true_not_false, both_left, both_right}
 use Rattle.rules.proofs.Lists.{add_one_listed, add_one_full, add_one_new, add_one_grown}
 use Rattle.lists.specs.Sets.{Marks, Fresh}
-use Rattle.lists.proofs.Gathering.{eqb_swap, among_row, longer_at, listed_longer, listed_one, add_more, add_none}
+use Rattle.lists.proofs.Gathering.{eqb_swap, among_row, listed_longer, listed_one, add_more, add_none}
 
 swap : (x y : Bool) → pick x true y ≡ either y x
 swap true true = refl
@@ -30,11 +29,25 @@ swap false false = refl
 pub mark_row : (s : ℕ) (f : ℕ → ℕ) (n : ℕ) → ((k : ℕ) → taken s k ≡ among k (rows n f)) → (k : ℕ) → taken (with_bit s (f n)) k ≡ among k (rows (suc n) f)
 mark_row s f n h k = taken_with s (f n) k ∙ rw (h k, eqb_swap k (f n)) (swap (eqb (f n) k) (among k (rows n f))) ∙ sym (among_row k f n)
 
+-- an element of a list's front
+pub front_at : (l : List ℕ) (n i : ℕ) → i < length (take n l) → get_or (take n l) i 0 ≡ get_or l i 0
+front_at l n i h = get_or-take n l i 0 (omega (arith, length-take {A = ℕ} n l))
+
 -- process q stands at place i and passes
 pub record Passes (t : ℕ → Bool) (f : ℕ → ℕ) (i q : ℕ) : Type 0 where
   pub is : q ≡ f i
   pub passes : t i ≡ true
   pub small : q < 64
+
+-- whether the one at a place of a line's front is in the way of p, as it is asked of that place
+module _ (o : Object) (p : ℕ) (m : Mode) (n i : ℕ) (h : i < length (take n o.line)) {b : Bool} (is-b : b ≡ (not (eqb (get_or (take n o.line) i 0) p) && conflict m (mode_at o i))) where
+  pub barred_not : b ≡ false → bars o p m i ≡ false
+  barred_not e = rw (front_at o.line n i h) at (sym is-b ∙ e)
+
+  pub barred_passes : LineRanged o → b ≡ true → Passes (bars o p m) (who_at o) i (get_or (take n o.line) i 0)
+  barred_passes ranged e =
+      let at = front_at o.line n i h in
+      record { is = at; passes = rw at at (sym is-b ∙ e); small = rw at (omega (arith, ranged.who i)) }
 
 -- what adding has done after i places, and whom it has marked
 pub record Gathered (t : ℕ → Bool) (f : ℕ → ℕ) (start : Entries) (lead : ℕ) (l : Entries) (seen i : ℕ) : Type 0 where
@@ -65,30 +78,34 @@ module _ (t : ℕ → Bool) (f : ℕ → ℕ) (start : Entries) (lead : ℕ) whe
             | no y ↦ add_one_full l lead q (omega arith)
           ]
 
-      module _ (marks : ℕ) (is-marks : marks ≡ with_bit seen q) where
-        gathered_one : (x : Entries) → x ≡ add_one l lead q → Gathered t f start lead x marks (i + 1)
-        gathered_one x grown = record {
-          is = grown ∙ one_more;
-          size = ap (λ (y : Entries). length y.who) grown ∙ (add_one_grown l lead q).who_size ∙ a.size;
-          marks = λ y. record { has = λ k u. rw (is-marks, grown) (marked k u (rw grown at y)) };
-        }
-          where
-            marked : (k : ℕ) → k < 64 → (add_one l lead q).count < 16 → taken (with_bit seen q) k ≡ listed (add_one l lead q) k
-            marked k u y =
-                taken_with seen q k ∙ rw ((a.marks (omega (arith, (add_one_grown l lead q).longer))).has k u, eqb_swap k q) (swap (eqb q k) (listed l k))
-                ∙ sym (listed_one l lead q k a.size y)
+      -- one who is not is not listed, where the list is not full, and is added
+      pub gathered_unlisted : taken seen q ≡ false → l.count < 16 → listed l q ≡ false
+      gathered_unlisted z h = sym ((a.marks h).has q here.small) ∙ z
 
-        -- a list of 16 stays, a shorter one takes the process at its end
-        pub gathered_full : 16 ≤ l.count → Gathered t f start lead l marks (i + 1)
-        gathered_full h = gathered_one l (sym (add_one_full l lead q h))
-
-        pub gathered_longer : (end : ℕ) → end ≡ l.count → l.count < 16 → taken seen q ≡ false → Gathered t f start lead (longer_at l end q lead) marks (i + 1)
-        gathered_longer end is-end h z = gathered_one (longer_at l end q lead) (rw is-end (sym (add_one_new l lead q (sym ((a.marks h).has q here.small) ∙ z) h)))
+      pub gathered_one : (x : Entries) (marks : ℕ) → x ≡ add_one l lead q → marks ≡ with_bit seen q → Gathered t f start lead x marks (i + 1)
+      gathered_one x marks grown is-marks = record {
+        is = grown ∙ one_more;
+        size = ap (λ (y : Entries). length y.who) grown ∙ (add_one_grown l lead q).who_size ∙ a.size;
+        marks = λ y. record { has = λ k u. rw (is-marks, grown) (marked k u (rw grown at y)) };
+      }
+        where
+          marked : (k : ℕ) → k < 64 → (add_one l lead q).count < 16 → taken (with_bit seen q) k ≡ listed (add_one l lead q) k
+          marked k u y =
+              taken_with seen q k ∙ rw ((a.marks (omega (arith, (add_one_grown l lead q).longer))).has k u, eqb_swap k q) (swap (eqb q k) (listed l k))
+              ∙ sym (listed_one l lead q k a.size y)
 
 -- ---- adding the numbers of a set, the lowest first
-pub without_less : (n k : ℕ) → taken n k ≡ true → without_bit n k < n
+without_less : (n k : ℕ) → taken n k ≡ true → without_bit n k < n
 unfolding without_bit
 without_less n k e = rw e (omega (arith, taken_le n k e, pow_pos k))
+
+-- the lowest number of a set that has one, and the set without it
+module _ (left : ℕ) (fits : left < 2 ^ 64) (some : left ≢ 0) {q : ℕ} (is-q : q ≡ lowest_taken left) where
+  pub lowest_below : q < 64
+  lowest_below = rw is-q (lowest_taken_below left fits some)
+
+  pub lowest_out : {less : ℕ} → less ≡ without_bit left q → less < left
+  lowest_out e = rw (e, is-q) (without_less left (lowest_taken left) (lowest-taken left (rw is-q at lowest_below)))
 
 -- what adding has done, and what is left of the set
 pub record Taking (start : Entries) (lead fresh : ℕ) (l : Entries) (left : ℕ) : Type 0 where
@@ -152,20 +169,15 @@ module _ (start : Entries) (lead fresh : ℕ) (h : Fresh start fresh) where
           stood : taken (without_bit left q) k ≡ true → taken left k ≡ true
           stood e = sym (without_other left q k (other e)) ∙ e
 
-      module _ (less : ℕ) (is-less : less ≡ without_bit left q) where
-        taking_one : (x : Entries) → x ≡ add_one l lead q → Taking start lead fresh x less
-        taking_one x grown = record {
-          from = suc q;
-          inside = omega (arith, taken_below fresh q 16 h.below fresh_has);
-          is = grown ∙ grows;
-          size = ap (λ (y : Entries). length y.who) grown ∙ (add_one_grown l lead q).who_size ∙ a.size;
-          rest = λ k. rw is-less (left_over k);
-          unlisted = λ k e. rw grown (still k (rw is-less at e));
-        }
+      pub taking_unlisted : listed l q ≡ false
+      taking_unlisted = a.unlisted q here
 
-        -- a list of 16 stays, a shorter one takes the process at its end
-        pub taking_full : 16 ≤ l.count → Taking start lead fresh l less
-        taking_full z = taking_one l (sym (add_one_full l lead q z))
-
-        pub taking_longer : (end : ℕ) → end ≡ l.count → l.count < 16 → Taking start lead fresh (longer_at l end q lead) less
-        taking_longer end is-end z = taking_one (longer_at l end q lead) (rw is-end (sym (add_one_new l lead q (a.unlisted q here) z)))
+      pub taking_one : (x : Entries) (less : ℕ) → x ≡ add_one l lead q → less ≡ without_bit left q → Taking start lead fresh x less
+      taking_one x less grown is-less = record {
+        from = suc q;
+        inside = omega (arith, taken_below fresh q 16 h.below fresh_has);
+        is = grown ∙ grows;
+        size = ap (λ (y : Entries). length y.who) grown ∙ (add_one_grown l lead q).who_size ∙ a.size;
+        rest = λ k. rw is-less (left_over k);
+        unlisted = λ k e. rw grown (still k (rw is-less at e));
+      }

@@ -1,11 +1,5 @@
 -- Those that a process waits for, as a list takes them up: holders by their set, then those ahead; and what an object's home makes of a list.
-use mathlib.Core.Path.{◌≡◌, refl, sym, ap, ◌∙◌}
-use mathlib.Core.Bool.{Bool, true, false, not, ◌&&◌}
-use Prim.Native.Nat.{ℕ, ◌+◌, ◌-◌, ◌^◌, ◌<◌}
-use native.Mathlib.Omega.{arith}
-use lib.Dec.{ltb}
-use lib.Bits.{bit_or, bit_and}
-use lib.ListN.{length}
+use Rattle.std.proofs.Common.{◌≡◌, refl, sym, ap, ◌∙◌, Bool, true, false, not, ◌&&◌, ℕ, ◌+◌, ◌-◌, ◌^◌, ◌<◌, arith, ltb, bit_or, bit_and, length, set}
 use borrow.Author.Tests.{lt-ltb, ltb-false, not-true, not-false}
 use Rattle.rules.specs.declared.Mode.{Mode}
 use Rattle.rules.specs.declared.Entries.{Entries}
@@ -13,7 +7,7 @@ use Rattle.rules.specs.declared.Object.{Object}
 use Rattle.rules.specs.Tables.{rows, collect, among}
 use Rattle.rules.specs.Bits.{taken, with_bit}
 use Rattle.rules.specs.Book.{mode_at, waited_for}
-use Rattle.rules.specs.Lists.{starter_of, asked_of, listed, add_all, with_next, starter}
+use Rattle.rules.specs.Lists.{starter_of, asked_of, listed, add_all, with_next, starter, no_entries}
 use Rattle.rules.proofs.Bits.{taken_with, taken_zero, taken_or, taken_and, taken_not, taken_above, below_from}
 use Rattle.rules.proofs.Tables.{both_left, both_right}
 use Rattle.objects.specs.Sets.{SetOf}
@@ -68,7 +62,10 @@ module _ (l : Entries) (lead : ℕ) (t : ℕ → Bool) (marks s : ℕ) (size : l
       self : SetOf (taken (unmarked s marks)) (unmarked s marks)
       self = record { below = below_16; has = λ k. keeps k (ltb k 16) refl }
 
--- ---- a list is started
+-- ---- a list is started: its first entry is put into an empty list
+pub starter_is : (p : ℕ) (l : Entries) → l ≡ no_entries → ◌≡◌ {A = Entries} (record { who = set l.who 0 p; leads = l.leads; count = 1; next = 1 }) (starter p)
+starter_is p l e = ap (λ (x : Entries). record { who = set x.who 0 p; leads = x.leads; count = 1; next = 1 }) e
+
 pub starter_marks : (p : ℕ) → Marks (starter p) (with_bit 0 p)
 unfolding listed rows among
 starter_marks p = record { has = λ k z. taken_with 0 p k ∙ rw (taken_zero k, eqb_swap k p) }

@@ -3,18 +3,21 @@
 #![tactic(auto)]
 
 ghost use Rattle.std.specs.Prelude.{◌≡◌, ◌<◌, ◌≤◌};
-ghost use Rattle.rules.specs.Tables as Tables;
 ghost use Rattle.rules.specs.Book as Book;
 ghost use Rattle.rules.specs.Lists as Lists;
 ghost use Rattle.rules.specs.Ranges.{LineRanged, ListRanged};
 ghost use Rattle.lists.specs.Onwards as Onwards;
 
 use rules::{Entries, Kind, Mode, Object, Wait};
+use standing::Standing;
+use values::bits::{wide, with};
 
 mod gather;
 pub mod ring;
+mod standing;
 
-// One leg of the way of a list: what it is sent as, and the place of the entry asked next; Free and 0 where the list ends.
+// One leg of the way of a list: what it is sent as, and the place of the entry asked next; Free and 0 where the list ends. That is no None:
+// `asks_next` and `onward` of specs/Onwards.antt say Free, the rules' word for nothing sent.
 #[derive(Clone, Copy)]
 pub struct Leg {
     pub kind: Kind,
@@ -26,9 +29,10 @@ pub fn asks_next(next: u8, count: u8) -> Kind
     ensures { result ≡ Onwards.asks_next next count }
 {
     if next < count {
-        return Kind::ListToHome;
+        Kind::ListToHome
+    } else {
+        Kind::Free
     }
-    Kind::Free
 }
 
 // A list arrives at the home of its next entry: it goes to the object that the process waits for; otherwise the entry is done.
@@ -37,21 +41,17 @@ pub fn onward(next: u8, count: u8, w: Wait) -> Leg
     ensures { result ≡ Onwards.onward next count w }
 {
     match w {
-        Wait::NotWaiting => {
-            if next + 1 < count {
-                return Leg {
-                    kind: Kind::ListToHome,
-                    next: next + 1,
-                };
-            }
-            Leg {
-                kind: Kind::Free,
-                next: 0,
-            }
-        }
+        Wait::NotWaiting if next + 1 < count => Leg {
+            kind: Kind::ListToHome,
+            next: next + 1,
+        },
+        Wait::NotWaiting => Leg {
+            kind: Kind::Free,
+            next: 0,
+        },
         Wait::Waiting(o, _) => Leg {
             kind: Kind::ListToObject(o),
-            next: next,
+            next,
         },
     }
 }
@@ -62,46 +62,33 @@ pub fn started(o: Object, p: u8, m: Mode, k: u8) -> Entries
     requires { LineRanged o × (p < 16) × (k ≤ 16) }
     ensures { result ≡ Lists.add_all (Lists.starter p) 0 (Book.waited_for o p m k) }
 {
-    let mut first = Entries {
-        who: [0; 16],
-        leads: [0; 16],
+    let mut list = Entries {
         count: 1,
         next: 1,
+        ..Entries::default()
     };
-    first.who[0] = p;
-    gather::add_unmarked(first, values::bits::with(0, p), o, p, m, k, 0)
+    list.who[0] = p;
+    let joining = Standing {
+        book: o,
+        process: p,
+        mode: m,
+        place: k,
+    };
+    gather::add_unmarked(&mut list, with(0, p), joining, 0);
+    list
 }
 
-// Process s stands ahead of place k in conflict with p in the mode.
-fn is_ahead(o: Object, p: u8, m: Mode, k: u8, s: u8) -> bool
-    requires { LineRanged o × (k ≤ 16) }
-    ensures { result ≡ Tables.among s (Book.ahead o p m k) }
+// The process asked next stands at place k of the line.
+fn asked_at(l: Entries, o: Object, k: u8) -> Standing
+    requires { ListRanged l × LineRanged o × (k < o.line_count) }
+    ensures { (result.book ≡ o) × (result.process ≡ Lists.asked_of l) × (result.mode ≡ Book.mode_at o k) × (result.place ≡ k) }
 {
-    let line = o.line;
-    let mut i: u8 = 0;
-    while i < k {
-        let at = values::bits::wide(i);
-        if line[at] != s {
-            i += 1;
-            continue;
-        }
-        if objects::bars(s, o.line_exclusive, p, m, i) {
-            return true;
-        }
-        i += 1;
+    Standing {
+        book: o,
+        process: l.who[wide(l.next)],
+        mode: objects::mode_at(o, k),
+        place: k,
     }
-    false
-}
-
-// Process p, in the mode at place k, waits for s.
-fn waits_for(o: Object, p: u8, m: Mode, k: u8, s: u8) -> bool
-    requires { LineRanged o × (p < 16) × (k ≤ 16) × (s < 16) }
-    ensures { result ≡ Tables.among s (Book.waited_for o p m k) }
-{
-    if values::bits::has(objects::rivals(o, p, m), s) {
-        return true;
-    }
-    is_ahead(o, p, m, k, s)
 }
 
 // The process asked next stands at place k of the line, and waits for the starter: the list closes a ring.
@@ -109,26 +96,7 @@ pub fn closes(l: Entries, o: Object, k: u8) -> bool
     requires { ListRanged l × LineRanged o }
     ensures { result ≡ Onwards.closes l o k }
 {
-    if o.line_count <= k {
-        return false;
-    }
-    let next = values::bits::wide(l.next);
-    let who = l.who;
-    waits_for(o, who[next], objects::mode_at(o, k), k, who[0])
-}
-
-// The list with another place as that of the entry asked next.
-fn with_next(l: Entries, next: u8) -> Entries
-    ensures { result ≡ Lists.with_next l next }
-{
-    let who = l.who;
-    let leads = l.leads;
-    Entries {
-        who: who,
-        leads: leads,
-        count: l.count,
-        next: next,
-    }
+    k < o.line_count && asked_at(l, o, k).waits_for(l.who[0])
 }
 
 // The list after its next entry is done, with those that the process waits for at place k of the line; with nobody more where it does
@@ -137,11 +105,10 @@ pub fn grown(l: Entries, o: Object, k: u8) -> Entries
     requires { ListRanged l × LineRanged o }
     ensures { result ≡ Onwards.grown l o k }
 {
-    if o.line_count <= k {
-        return with_next(l, l.next + 1);
+    let mut list = l;
+    if k < o.line_count {
+        gather::add_waited(&mut list, asked_at(l, o, k), l.next);
     }
-    let next = values::bits::wide(l.next);
-    let who = l.who;
-    let added = gather::add_waited(l, o, who[next], objects::mode_at(o, k), k, l.next);
-    with_next(added, l.next + 1)
+    list.next = l.next + 1;
+    list
 }

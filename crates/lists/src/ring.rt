@@ -4,28 +4,18 @@ ghost use Rattle.rules.specs.Lists as Lists;
 ghost use Rattle.lists.specs.Rings as Rings;
 
 use rules::{Entries, Ring};
-
-fn no_ring() -> Ring
-    ensures { result ≡ Lists.no_ring }
-{
-    Ring {
-        processes: [0; 16],
-        count: 0,
-    }
-}
+use values::bits::wide;
 
 // The ring with one more process at its end.
 fn extended(r: Ring, p: u8) -> Ring
     requires { r.count < 16 }
     ensures { result ≡ Rings.extended r p }
 {
-    let n = r.count;
-    let at = values::bits::wide(n);
     let mut processes = r.processes;
-    processes[at] = p;
+    processes[wide(r.count)] = p;
     Ring {
-        processes: processes,
-        count: n + 1,
+        processes,
+        count: r.count + 1,
     }
 }
 
@@ -34,22 +24,18 @@ pub fn along_leads(l: Entries, at: usize) -> Ring
     requires { at < 16 }
     ensures { result ≡ Lists.ring_of (Lists.along_leads at l at) }
 {
-    let leads = l.leads;
-    let who = l.who;
-    let lead = values::bits::wide(leads[at]);
-    let mut ring = no_ring();
-    if lead < at {
-        ring = along_leads(l, lead);
-    }
-    extended(ring, who[at])
+    let lead = wide(l.leads[at]);
+    let led = if lead < at {
+        along_leads(l, lead)
+    } else {
+        Ring::default()
+    };
+    extended(led, l.who[at])
 }
 
 // A filled place is kept.
 pub fn keeping(old: Ring, new: Ring) -> Ring
     ensures { result ≡ Lists.keeping old new }
 {
-    if old.count == 0 {
-        return new;
-    }
-    old
+    if old.count == 0 { new } else { old }
 }

@@ -3,214 +3,137 @@
 
 use desk::Desk;
 use desk::messages::arrives_at;
-use rules::{Board, Entries, Kind};
-use values::bits::{has, wide, with};
-use values::mode::is_exclusive;
-use words::{clause, digit, item, number, row, say, text};
+use rules::{Board, Entries, Kind, Message};
+use std::io::{Result, Write};
+use text::Page;
+use values::bits::wide;
+use words::{Members, on_or_below, row};
 
-fn at(row: [u8; 16], k: u8) -> u8 {
-    let i = wide(k);
-    if i < 16 {
-        return row[i];
-    }
-    0
+// ---- what a message carries
+// The message under a number; none where the number is above 63.
+pub fn under(b: &Board, n: usize) -> Option<Message> {
+    let flight = b.flights.get(n)?;
+    let list = b.lists.get(n)?;
+    Some(Message {
+        kind: flight.kind,
+        list: *list,
+    })
 }
 
-// What a message says: its form in the tables of forms, and the numbers that are put in. It goes to the home of an object or of a process;
-// a list asks a process there, or looks for it in the object's line.
-#[derive(Clone, Copy)]
-pub struct Said {
-    pub form: u8,
-    pub first: u8,
-    pub second: u8,
-    pub mode: u8,
-    pub to_object: bool,
-    pub home_of: u8,
-    pub asked: u8,
+pub fn is_list(m: &Message) -> bool {
+    matches!(m.kind, Kind::ListToHome | Kind::ListToObject(_))
 }
 
-fn to_object(form: u8, p: u8, o: u8, mode: u8, asked: u8) -> Said {
-    Said {
-        form,
-        first: p,
-        second: o,
-        mode,
-        to_object: true,
-        home_of: o,
-        asked,
-    }
+// The process at a place of a list's entries; p0 behind the last place.
+fn at(row: &[u8; 16], k: u8) -> u8 {
+    row.get(wide(k)).copied().unwrap_or(0)
 }
 
-fn to_process(form: u8, first: u8, second: u8, mode: u8, p: u8) -> Said {
-    Said {
-        form,
-        first,
-        second,
-        mode,
-        to_object: false,
-        home_of: p,
-        asked: p,
-    }
+// The process that a list asks next.
+pub fn asked(l: &Entries) -> u8 {
+    at(&l.who, l.next)
 }
 
-// What a message of a kind says, whose list has a starter and asks a process next.
-fn of(k: Kind, starter: u8, asked: u8) -> Said {
-    match k {
-        Kind::Free => to_object(0, 0, 0, 0, 0),
-        Kind::Request(p, o, m) => to_object(1, p, o, digit(is_exclusive(m)), p),
-        Kind::Grant(p, o, m) => to_process(2, p, o, digit(is_exclusive(m)), p),
-        Kind::Release(p, o) => to_object(3, p, o, 0, p),
-        Kind::ListToHome => to_process(4, starter, asked, 0, asked),
-        Kind::ListToObject(o) => to_object(5, starter, o, 0, asked),
+// The node that sent the message under a number, and the node where it arrives.
+pub fn way(desk: &Desk, n: usize) -> (u8, u8) {
+    let from = desk.senders.get(n).copied().unwrap_or(0);
+    (from, arrives_at(desk.board, n))
+}
+
+// ---- a message in words
+// What it is: its kind, and what it is about.
+pub fn named(out: &mut Page, m: &Message) -> Result<()> {
+    match m.kind {
+        Kind::Free => write!(out, ":"),
+        Kind::Request(p, o, mode) => write!(out, ": request of p{p} for o{o} {mode}"),
+        Kind::Grant(p, o, mode) => write!(out, ": grant to p{p} of o{o} {mode}"),
+        Kind::Release(p, o) => write!(out, ": release by p{p} of o{o}"),
+        Kind::ListToHome | Kind::ListToObject(_) => write!(out, ": list of p{}", m.list.who[0]),
     }
 }
 
-// The message under a number; as a free one where the number is above 63.
-pub fn under(b: Board, n: usize) -> Said {
-    if n < 64 {
-        let f = b.flights[n];
-        let k = f.kind;
-        let l = b.lists[n];
-        let who = l.who;
-        return of(k, who[0], at(who, l.next));
+// Where a list goes.
+fn heading(out: &mut Page, m: &Message) -> Result<()> {
+    match m.kind {
+        Kind::ListToHome => write!(out, " to the home of p{}", asked(&m.list)),
+        Kind::ListToObject(o) => write!(out, " to o{o}"),
+        _ => Ok(()),
     }
-    to_object(0, 0, 0, 0, 0)
-}
-
-pub fn is_list(s: Said) -> bool {
-    3 < s.form
 }
 
 // One entry; each but the first names the earlier one that led to it.
-fn entry(out: &mut [u8; 65536], place: usize, l: Entries, i: u8) -> usize {
-    let who = l.who;
-    let leads = l.leads;
-    let lead = at(leads, i);
-    let form = row(b"p#|p# (led by p#)|", digit(lead < i));
-    item(
-        out,
-        place,
-        form,
-        wide(i),
-        [at(who, i), at(who, lead), 0, 0],
-        99,
-    )
-}
-
-fn entry_row(out: &mut [u8; 65536], at: usize, l: Entries) -> usize {
-    let mut end = at;
-    let mut i: u8 = 0;
-    while i < 16 {
-        if l.count <= i {
-            return end;
-        }
-        end = entry(out, end, l, i);
-        i += 1;
+fn entry(out: &mut Page, l: &Entries, i: u8) -> Result<()> {
+    let lead = at(&l.leads, i);
+    write!(out, "p{}", at(&l.who, i))?;
+    if lead < i {
+        write!(out, " (led by p{})", at(&l.who, lead))?;
     }
-    end
+    Ok(())
 }
 
 // What a list is to do where it arrives: ask a process at its home, or look for it in an object's line.
-fn to_do(out: &mut [u8; 65536], at: usize, s: Said) -> usize {
-    say(
-        out,
-        at,
-        row(
-            b"asks p# next|looks for p# in the line of o#|",
-            digit(s.to_object),
-        ),
-        [s.asked, s.home_of, 0, 0],
-    )
+fn to_do(out: &mut Page, m: &Message) -> Result<()> {
+    let p = asked(&m.list);
+    match m.kind {
+        Kind::ListToObject(o) => write!(out, "looks for p{p} in the line of o{o}"),
+        _ => write!(out, "asks p{p} next"),
+    }
 }
 
 // The entries of a list with their leads, and what it is to do, on lines of their own. A message that is no list has none.
-fn entries(out: &mut [u8; 65536], at: usize, s: Said, l: Entries) -> usize {
+fn entries(out: &mut Page, m: &Message) -> Result<()> {
+    let l = &m.list;
     if l.count == 0 {
-        return at;
+        return Ok(());
     }
-    let opened = text(out, at, b"\n      entries ");
-    let listed = entry_row(out, opened, l);
-    let wide = to_do(out, listed, s);
-    let parted = clause(out, listed, wide);
-    to_do(out, parted, s)
-}
-
-fn line(out: &mut [u8; 65536], at: usize, n: usize, s: Said, from: u8, to: u8) -> usize {
-    let numbered = number(out, at, n);
-    let told = say(
-        out,
-        numbered,
-        row(
-            b":|: request of p# for o# ?|: grant to p# of o# ?|: release by p# of o#|: list of p# to the home of p#|: list of p# to o#|",
-            s.form,
-        ),
-        [s.first, s.second, s.mode, 0],
-    );
-    say(out, told, b", from node # to node #", [from, to, 0, 0])
+    write!(out, "\n      entries ")?;
+    row(out, 99, 0..l.count.min(16), |out, i| entry(out, l, i))?;
+    write!(out, ";")?;
+    on_or_below(out, 100, m, to_do)
 }
 
 // The message under a number, behind a word or two.
-pub fn tell(out: &mut [u8; 65536], at: usize, before: &[u8], desk: Desk, n: usize) -> usize {
-    if n < 64 {
-        let b = desk.board;
-        let s = under(b, n);
-        let begun = text(out, at, before);
-        let told = line(out, begun, n, s, desk.senders[n], arrives_at(b, n));
-        let listed = entries(out, told, s, b.lists[n]);
-        return text(out, listed, b"\n");
-    }
-    at
+pub fn tell(out: &mut Page, before: &str, desk: &Desk, n: usize) -> Result<()> {
+    let Some(m) = under(&desk.board, n) else {
+        return Ok(());
+    };
+    let (from, to) = way(desk, n);
+    write!(out, "{before}{n}")?;
+    named(out, &m)?;
+    heading(out, &m)?;
+    write!(out, ", from node {from} to node {to}")?;
+    entries(out, &m)?;
+    writeln!(out)
 }
 
 // Each message of a set, one to a line.
-pub fn tell_each(out: &mut [u8; 65536], at: usize, before: &[u8], desk: Desk, set: u64) -> usize {
-    let mut end = at;
-    let mut i: u8 = 0;
-    while i < 64 {
-        if !has(set, i) {
-            i += 1;
-            continue;
-        }
-        end = tell(out, end, before, desk, wide(i));
-        i += 1;
+pub fn tell_each(out: &mut Page, before: &str, desk: &Desk, set: u64) -> Result<()> {
+    for n in Members::of(set) {
+        tell(out, before, desk, wide(n))?;
     }
-    end
+    Ok(())
 }
 
 // ---- the messages in flight
-pub fn in_flight(out: &mut [u8; 65536], at: usize, desk: Desk) -> usize {
-    let b = desk.board;
-    if b.occupied == 0 {
-        return text(out, at, b"  no message in flight\n");
+pub fn in_flight(out: &mut Page, desk: &Desk) -> Result<()> {
+    let set = desk.board.occupied;
+    if set == 0 {
+        return writeln!(out, "  no message in flight");
     }
-    tell_each(out, at, b"  message ", desk, b.occupied)
+    tell_each(out, "  message ", desk, set)
 }
 
 // Those that are on their way to a node.
-fn bound_for(b: Board, node: u8) -> u64 {
-    let mut set: u64 = 0;
-    let mut i: u8 = 0;
-    while i < 64 {
-        if arrives_at(b, wide(i)) != node {
-            i += 1;
-            continue;
+pub fn in_flight_to(out: &mut Page, desk: &Desk, node: u8) -> Result<()> {
+    let b = &desk.board;
+    let begun = out.len();
+    for n in Members::of(b.occupied) {
+        if arrives_at(*b, wide(n)) == node {
+            tell(out, "  message ", desk, wide(n))?;
         }
-        set = with(set, i);
-        i += 1;
     }
-    set & b.occupied
-}
-
-pub fn in_flight_to(out: &mut [u8; 65536], at: usize, desk: Desk, node: u8) -> usize {
-    let b = desk.board;
-    let set = bound_for(b, node);
-    if set == 0 {
-        return say(
-            out,
-            at,
-            b"  no message on its way to node #\n",
-            [node, 0, 0, 0],
-        );
+    if out.len() == begun {
+        writeln!(out, "  no message on its way to node {node}")?;
     }
-    tell_each(out, at, b"  message ", desk, set)
+    Ok(())
 }

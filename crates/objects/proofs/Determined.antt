@@ -1,13 +1,11 @@
 -- The contracts of the handlers determine their results, whether or not the numbers are in range.
-use mathlib.Core.Path.{refl, sym, ◌∙◌}
+use Rattle.std.proofs.Common.{refl, sym, ◌∙◌, not, ◌&&◌, eqb}
 use seplogic.Ra.Ura.{Ura}
 use base.Logic.{SProp}
 use prog.Memory.{Memory}
 use prog.Routine.{Routine}
 use types.Logic.{Logic}
 use contract.Monad.{Fun}
-use mathlib.Core.Bool.{not, ◌&&◌}
-use lib.Dec.{eqb}
 use Rattle.rules.specs.Bits as Bits
 use Rattle.rules.specs.Book as Book
 use Rattle.rules.specs.Determined.{Determined}

@@ -1,10 +1,5 @@
 -- The front of a line is let in: one turn of the rule, and lines stay ranged.
-use mathlib.Core.Path.{◌≡◌, refl}
-use mathlib.Core.Bool.{true, false, ◌&&◌}
-use Prim.Native.Nat.{ℕ, zero, suc, ◌-◌, ◌<◌}
-use native.Mathlib.Omega.{arith}
-use borrow.Author.Tests.{lt-ltb, ltb-true}
-use lib.Dec.{ltb}
+use Rattle.std.proofs.Common.{◌≡◌, refl, true, false, ◌&&◌, ℕ, zero, suc, ◌-◌, ◌<◌, arith, lt-ltb, ltb-true, ltb}
 use Rattle.rules.specs.declared.Object.{Object}
 use Rattle.rules.specs.Book.{who_at, mode_at, held, front_clear, front_granted, settled}
 use Rattle.rules.specs.Ranges.{LineRanged}

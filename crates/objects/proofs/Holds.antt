@@ -1,16 +1,8 @@
 -- Holders as sets: a word of 64 digits with the holders in conflict is the rules' test, process by process.
-use mathlib.Core.Path.{◌≡◌, refl, sym, ap, ◌∙◌}
-use mathlib.Core.Logic.{◌≢◌}
-use mathlib.Core.Bool.{Bool, true, false, not, ◌&&◌}
+use Rattle.std.proofs.Common.{◌≡◌, refl, sym, ap, ◌∙◌, ◌≢◌, Bool, true, false, not, ◌&&◌, ℕ, ◌-◌, ◌%◌, ◌^◌, ◌<◌, arith, eqb, ltb, [], pow_pos, bit_or, eq-eqb, ne_eqb, lt-ltb, le-ltb, ltb-true}
 use mathlib.Core.Option.{some, none}
-use Prim.Native.Nat.{ℕ, ◌-◌, ◌%◌, ◌^◌, ◌<◌}
-use native.Mathlib.Omega.{arith}
 use native.Mathlib.Decide.{dec_lt, ℕ_discrete}
-use lib.Dec.{eqb, ltb}
-use mathlib.Core.List.{[]}
-use lib.Pow.{pow_pos}
-use lib.Bits.{bit_or, and_mask}
-use borrow.Author.Tests.{eq-eqb, ne_eqb, lt-ltb, le-ltb, ltb-true}
+use lib.Bits.{and_mask}
 use Rattle.rules.specs.declared.Mode.{Mode}
 use Rattle.rules.specs.declared.Mode.TheVariants.{Shared, Exclusive}
 use Rattle.rules.specs.declared.Object.{Object}

@@ -1,7 +1,9 @@
 // What the home of an object does on a request and on a release: one message, one object's book.
+// That a process's number is below 16, and that a line is ranged, is asked of each call and stands in no type: both come from records with
+// public fields, a message's kind and a board's book, which any board may hold out of range (`shape` tells), and every call would wrap them.
 #![tactic(auto)]
 
-ghost use Rattle.std.specs.Prelude.{◌≡◌, ◌<◌, ◌-◌, [], ◌∷◌, ◌++◌, not, ◌&&◌, eqb, drop};
+ghost use Rattle.std.specs.Prelude.{◌≡◌, ◌<◌, [], ◌∷◌, ◌++◌, not, ◌&&◌, eqb, drop};
 ghost use Rattle.rules.specs.Bits as Bits;
 ghost use Rattle.rules.specs.Book as Book;
 ghost use Rattle.rules.specs.Ranges.{LineRanged};
@@ -9,16 +11,20 @@ ghost use Rattle.objects.specs.Fronts as Fronts;
 ghost use Rattle.objects.specs.Sets.{SetOf};
 
 use rules::{Mode, Object};
+use std::array;
+use values::bits::{has, marked, without};
+use values::mode::{is_exclusive, mode_if};
 
 // Those who hold in conflict with process p in the mode, as a set.
 pub fn rivals(o: Object, p: u8, m: Mode) -> u64
     requires { p < 16 }
     ensures { SetOf (Book.rival o p m) result }
 {
-    if values::mode::is_exclusive(m) {
-        return values::bits::without((o.shared | o.exclusive) % 65536, p);
-    }
-    values::bits::without(o.exclusive % 65536, p)
+    let against = match m {
+        Mode::Shared => o.exclusive,
+        Mode::Exclusive => o.shared | o.exclusive,
+    };
+    without(against % 65536, p)
 }
 
 // No holder conflicts with process p in the mode.
@@ -34,25 +40,17 @@ pub fn mode_at(o: Object, k: u8) -> Mode
     requires { k < 16 }
     ensures { result ≡ Book.mode_at o k }
 {
-    values::mode::mode_if(values::bits::has(o.line_exclusive, k))
+    mode_if(has(o.line_exclusive, k))
 }
 
-// The place of p in the line; the line's length where it is not there.
+// The place of p in the line; the line's length where it is not there, and no Option: the rules' `place_in` is this number, and what a list
+// does next (`lists::closes`, `lists::grown`) is said of it, with `place < line_count` for 'it stands there'.
 pub fn place_in(o: Object, p: u8) -> u8
     requires { LineRanged o }
     ensures { result ≡ Book.place_in o p }
 {
-    let n = o.line_count;
-    let line = o.line;
-    let mut k: u8 = 0;
-    while k < n {
-        let i = values::bits::wide(k);
-        if line[i] == p {
-            return k;
-        }
-        k += 1;
-    }
-    n
+    let n = usize::from(o.line_count);
+    o.line[..n].iter().position(|q| *q == p).unwrap_or(n) as u8
 }
 
 // Process q, at place i of a line whose exclusive places are given, is in the way of p: it is another, and the modes conflict.
@@ -60,13 +58,7 @@ pub fn bars(q: u8, exclusive: u64, p: u8, m: Mode, i: u8) -> bool
     requires { i < 16 }
     ensures { result ≡ (not (eqb q p) && Book.conflict m (Book.mode_if (Bits.taken exclusive i))) }
 {
-    if q == p {
-        return false;
-    }
-    if values::mode::is_exclusive(m) {
-        return true;
-    }
-    values::bits::has(exclusive, i)
+    q != p && (is_exclusive(m) || has(exclusive, i))
 }
 
 // The process becomes a holder, which replaces any hold that it has there.
@@ -74,11 +66,12 @@ pub fn hold(o: Object, p: u8, m: Mode) -> Object
     requires { p < 16 }
     ensures { result ≡ Book.held o p m }
 {
-    let x = values::mode::is_exclusive(m);
-    let mut next = o;
-    next.shared = values::bits::marked(o.shared, p, !x);
-    next.exclusive = values::bits::marked(o.exclusive, p, x);
-    next
+    let exclusive = is_exclusive(m);
+    Object {
+        shared: marked(o.shared, p, !exclusive),
+        exclusive: marked(o.exclusive, p, exclusive),
+        ..o
+    }
 }
 
 // The holder, if it is there, is struck.
@@ -86,10 +79,11 @@ pub fn strike(o: Object, p: u8) -> Object
     requires { p < 16 }
     ensures { result ≡ Book.struck o p }
 {
-    let mut next = o;
-    next.shared = values::bits::without(o.shared, p);
-    next.exclusive = values::bits::without(o.exclusive, p);
-    next
+    Object {
+        shared: without(o.shared, p),
+        exclusive: without(o.exclusive, p),
+        ..o
+    }
 }
 
 // The process joins the end of the line; a line of 16 does not grow.
@@ -97,20 +91,17 @@ pub fn join(o: Object, p: u8, m: Mode) -> Object
     ensures { result ≡ Book.joined o p m }
 {
     let n = o.line_count;
-    if n < 16 {
-        let at = values::bits::wide(n);
-        let x = values::mode::is_exclusive(m);
-        let mut line = o.line;
-        line[at] = p;
-        return Object {
-            shared: o.shared,
-            exclusive: o.exclusive,
-            line: line,
-            line_exclusive: values::bits::marked(o.line_exclusive, n, x),
-            line_count: n + 1,
-        };
+    if 16 <= n {
+        return o;
     }
-    o
+    let mut line = o.line;
+    line[usize::from(n)] = p;
+    Object {
+        line,
+        line_exclusive: marked(o.line_exclusive, n, is_exclusive(m)),
+        line_count: n + 1,
+        ..o
+    }
 }
 
 // The line is empty and no holder conflicts.
@@ -118,10 +109,7 @@ pub fn is_welcome(o: Object, p: u8, m: Mode) -> bool
     requires { p < 16 }
     ensures { result ≡ Book.welcome o p m }
 {
-    if o.line_count == 0 {
-        return is_clear(o, p, m);
-    }
-    false
+    o.line_count == 0 && is_clear(o, p, m)
 }
 
 // The front of the line conflicts with no holder.
@@ -132,27 +120,12 @@ pub fn front_clear(o: Object) -> bool
     is_clear(o, o.line[0], mode_at(o, 0))
 }
 
-// The places of a line after its front has left.
+// The places of a line after its front has left: each has what stood one place on. Written whole, and not turned in place, since a row that
+// is read just after one of its bytes was written makes the processor wait.
 fn shifted(line: [u8; 16]) -> [u8; 16]
     ensures { result ≡ drop 1 line ++ 0 ∷ [] }
 {
-    let mut next = line;
-    let mut i: usize = 0;
-    while i < 15 {
-        next[i] = line[i + 1];
-        i += 1;
-    }
-    next[15] = 0;
-    next
-}
-
-fn one_less(n: u8) -> u8
-    ensures { result ≡ n - 1 }
-{
-    if n == 0 {
-        return 0;
-    }
-    n - 1
+    array::from_fn(|i| line.get(i + 1).copied().unwrap_or(0))
 }
 
 // The front becomes a holder and leaves the line.
@@ -161,14 +134,11 @@ pub fn front_granted(o: Object) -> Object
     ensures { result ≡ Book.front_granted o }
 {
     let held = hold(o, o.line[0], mode_at(o, 0));
-    let line = o.line;
-    let rest = shifted(line);
     Object {
-        shared: held.shared,
-        exclusive: held.exclusive,
-        line: rest,
+        line: shifted(o.line),
         line_exclusive: o.line_exclusive >> 1,
-        line_count: one_less(o.line_count),
+        line_count: o.line_count.saturating_sub(1),
+        ..held
     }
 }
 
@@ -177,13 +147,10 @@ pub fn front_goes(o: Object) -> bool
     requires { LineRanged o }
     ensures { result ≡ Fronts.front_goes o }
 {
-    if o.line_count == 0 {
-        return false;
-    }
-    front_clear(o)
+    0 < o.line_count && front_clear(o)
 }
 
-// The front is let in, one after another, while it conflicts with no holder.
+// The front is let in, one after another, while it conflicts with no holder. Nothing is counted here: the book says when it ends.
 pub fn let_in(o: Object) -> Object
     requires { LineRanged o }
     ensures { result ≡ Fronts.let_in o }

@@ -1,160 +1,106 @@
 // An opening: counts and homes are tested, books and messages are empty.
 #![tactic(auto)]
 
-ghost use Rattle.std.specs.Prelude.{◌≡◌, ltb};
-ghost use Rattle.rules.specs.Tables.{pick};
+ghost use Rattle.std.specs.Prelude.{◌≡◌};
 ghost use Rattle.rules.specs.Answers.{first_of};
-ghost use Rattle.rules.specs.Board.{no_process};
 ghost use Rattle.rules.specs.Commands.{homes_of, empty_board, zero_board, opening_tests, opening};
 
-use rules::{Answer, Board, Flight, Kind, Object, Process, Ring, Stepped, Wait};
-use values::bits::wide;
+use rules::{Answer, Board, Entries, Flight, Object, Process, Ring, Stepped};
 use values::count::count_fits;
 use values::homes::home_outside;
-
-fn at_most_16(count: u8) -> usize
-    ensures { result ≡ pick (ltb count 16) count 16 }
-{
-    if count < 16 {
-        return wide(count);
-    }
-    16
-}
 
 // The first `count` homes, and zero past them.
 fn homes_of(count: u8, homes: [u8; 16]) -> [u8; 16]
     ensures { result ≡ homes_of count homes }
 {
-    let n = at_most_16(count);
-    let mut kept = [0u8; 16];
-    let mut k: usize = 0;
-    while k < n {
-        kept[k] = homes[k];
-        k += 1;
-    }
+    let n = usize::from(count.min(16));
+    let mut kept = [0; 16];
+    kept[..n].copy_from_slice(&homes[..n]);
     kept
 }
 
-// The answer to an opening: its tests in their order.
-pub fn answer(
-    nodes: u8,
-    processes: u8,
-    objects: u8,
-    process_home: [u8; 16],
-    object_home: [u8; 16],
-) -> Answer
-    ensures { result ≡ first_of (opening_tests nodes processes objects process_home object_home) }
-{
-    if !count_fits(nodes, 8) {
-        return Answer::CountOutside;
-    }
-    if !count_fits(processes, 16) {
-        return Answer::CountOutside;
-    }
-    if !count_fits(objects, 16) {
-        return Answer::CountOutside;
-    }
-    if home_outside(process_home, wide(processes), wide(nodes)) {
-        return Answer::HomeOutside;
-    }
-    if home_outside(object_home, wide(objects), wide(nodes)) {
-        return Answer::HomeOutside;
-    }
-    Answer::Done
+// What an opening is given: its counts, and the homes of the processes and of the objects. Homes past the counts are ignored.
+#[derive(Clone, Copy, PartialEq, Eq, Default)]
+pub struct Opening {
+    pub nodes: u8,
+    pub processes: u8,
+    pub objects: u8,
+    pub process_home: [u8; 16],
+    pub object_home: [u8; 16],
 }
 
-// The book of a process that holds nothing, waits for nothing and has not released.
-fn no_process() -> Process
-    ensures { result ≡ no_process }
-{
-    Process {
-        shared: 0,
-        exclusive: 0,
-        wait: Wait::NotWaiting,
-        released: false,
+impl Opening {
+    // The answer to the opening: its tests in their order.
+    pub fn answer(&self) -> Answer
+        ensures { result ≡ first_of (opening_tests self.now.nodes self.now.processes self.now.objects self.now.process_home self.now.object_home) }
+    {
+        if !count_fits(self.nodes, 8)
+            || !count_fits(self.processes, 16)
+            || !count_fits(self.objects, 16)
+        {
+            return Answer::CountOutside;
+        }
+        let nodes = usize::from(self.nodes);
+        if home_outside(self.process_home, usize::from(self.processes), nodes)
+            || home_outside(self.object_home, usize::from(self.objects), nodes)
+        {
+            return Answer::HomeOutside;
+        }
+        Answer::Done
     }
-}
 
-// "An opening has empty books and no message."
-fn empty_board(
-    nodes: u8,
-    processes: u8,
-    objects: u8,
-    process_home: [u8; 16],
-    object_home: [u8; 16],
-) -> Board
-    ensures { result ≡ empty_board nodes processes objects process_home object_home }
-{
-    let process = no_process();
-    let object = Object {
-        shared: 0,
-        exclusive: 0,
-        line: [0; 16],
-        line_exclusive: 0,
-        line_count: 0,
-    };
-    let none = values::message::no_entries();
-    let ring = Ring {
-        processes: [0; 16],
-        count: 0,
-    };
-    let flight = Flight { kind: Kind::Free };
-    Board {
-        nodes: nodes,
-        process_count: processes,
-        object_count: objects,
-        process_home: process_home,
-        object_home: object_home,
-        processes: [process; 16],
-        objects: [object; 16],
-        occupied: 0,
-        flights: [flight; 64],
-        lists: [none; 64],
-        rings: [ring; 16],
+    // The board of an opening that is not refused: empty books, and no message.
+    pub fn board(&self) -> Board
+        ensures { result ≡ empty_board self.now.nodes self.now.processes self.now.objects (homes_of self.now.processes self.now.process_home) (homes_of self.now.objects self.now.object_home) }
+    {
+        let kept = Opening {
+            process_home: homes_of(self.processes, self.process_home),
+            object_home: homes_of(self.objects, self.object_home),
+            ..*self
+        };
+        kept.empty_board()
     }
-}
 
-// The board of an opening that is not refused: empty books, and no message. Homes past the counts are ignored.
-pub fn board(
-    nodes: u8,
-    processes: u8,
-    objects: u8,
-    process_home: [u8; 16],
-    object_home: [u8; 16],
-) -> Board
-    ensures { result ≡ empty_board nodes processes objects (homes_of processes process_home) (homes_of objects object_home) }
-{
-    let kept_processes = homes_of(processes, process_home);
-    let kept_objects = homes_of(objects, object_home);
-    empty_board(nodes, processes, objects, kept_processes, kept_objects)
+    // "An opening has empty books and no message." Its homes are kept as they are given.
+    fn empty_board(&self) -> Board
+        ensures { result ≡ empty_board self.now.nodes self.now.processes self.now.objects self.now.process_home self.now.object_home }
+    {
+        Board {
+            nodes: self.nodes,
+            process_count: self.processes,
+            object_count: self.objects,
+            process_home: self.process_home,
+            object_home: self.object_home,
+            processes: [Process::default(); 16],
+            objects: [Object::default(); 16],
+            occupied: 0,
+            flights: [Flight::default(); 64],
+            lists: [Entries::default(); 64],
+            rings: [Ring::default(); 16],
+        }
+    }
+
+    // The opening's answer and its board, the board of zeros where it is refused.
+    pub fn open(&self) -> Stepped
+        ensures { result ≡ opening self.now.nodes self.now.processes self.now.objects self.now.process_home self.now.object_home }
+    {
+        let answer = self.answer();
+        if answer != Answer::Done {
+            return Stepped {
+                answer,
+                board: zero_board(),
+            };
+        }
+        Stepped {
+            answer,
+            board: self.board(),
+        }
+    }
 }
 
 // The board of zeros, which a refused opening hands back.
 pub fn zero_board() -> Board
     ensures { result ≡ zero_board }
 {
-    empty_board(0, 0, 0, [0; 16], [0; 16])
-}
-
-// An opening: its answer and its board, the board of zeros where it is refused.
-pub fn open(
-    nodes: u8,
-    processes: u8,
-    objects: u8,
-    process_home: [u8; 16],
-    object_home: [u8; 16],
-) -> Stepped
-    ensures { result ≡ opening nodes processes objects process_home object_home }
-{
-    let answer = answer(nodes, processes, objects, process_home, object_home);
-    if values::answer::number(answer) != 0 {
-        return Stepped {
-            answer: answer,
-            board: zero_board(),
-        };
-    }
-    Stepped {
-        answer: answer,
-        board: board(nodes, processes, objects, process_home, object_home),
-    }
+    Opening::default().empty_board()
 }

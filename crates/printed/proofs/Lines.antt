@@ -3,10 +3,11 @@
 use mathlib.Core.Path.{◌≡◌, refl, sym, ap, ◌∙◌}
 use mathlib.Core.Bool.{true, false}
 use mathlib.Core.List.{List, [], ◌∷◌, ◌++◌, append_assoc, append-nil}
-use Prim.Native.Nat.{ℕ, ◌+◌}
+use Prim.Native.Nat.{ℕ, zero, suc, ◌+◌, ◌<◌}
+use native.Mathlib.Omega.{arith}
 use native.Mathlib.Numerals.{add-one}
 use lib.Dec.{eqb}
-use lib.ListN.{get_or, replicate}
+use lib.ListN.{length, take, get_or, replicate}
 use Rattle.rules.specs.declared.Ran.{Ran}
 use Rattle.rules.specs.Answers.{number}
 use Rattle.rules.specs.Sheet.{run_sheet}
@@ -22,7 +23,19 @@ use Rattle.rules.specs.Book.{hold_in, holder_at, who_at, mode_at}
 use Rattle.rules.specs.Board.{object_at, ring_at, in_flight, tally}
 use Rattle.text.specs.Text.{decimal, after_spaces, spaced, line_of, flat, at_most}
 use Rattle.printed.specs.Lines.{letter, entry, entry_if, holder_entries, line_entries, object_line, object_lines, ring_entries, ring_line, ring_lines, last_line, command_line, command_lines, refused_line, printed, printed_sheet, word_ring, word_messages, word_rings, word_sheet}
-use Rattle.text.proofs.Text.{spaces_append, spaces_one}
+use Rattle.text.proofs.Text.{spaces_append, spaces_one, added_two}
+
+-- ---- an entry of a table, and one of the first n: what is read past the end does not matter
+pub same_at : {A : Type 0} (l : List A) (i : ℕ) (d e : A) → i < length l → get_or l i d ≡ get_or l i e
+same_at [] i d e h = absurd (omega arith)
+same_at (x ∷ l) zero d e h = refl
+same_at (x ∷ l) (suc i) d e h = same_at l i d e (omega arith)
+
+pub first_at : {A : Type 0} (n : ℕ) (l : List A) (i : ℕ) (d e : A) → i < length (take n l) → get_or (take n l) i d ≡ get_or l i e
+first_at zero l i d e h = absurd (omega arith)
+first_at (suc n) [] i d e h = absurd (omega arith)
+first_at (suc n) (x ∷ l) zero d e h = refl
+first_at (suc n) (x ∷ l) (suc i) d e h = first_at n l i d e (omega arith)
 
 -- ---- one more
 pub side_next : (f : ℕ → List (List ℕ)) (k : ℕ) → after_spaces (flat k f) ++ after_spaces (f k) ≡ after_spaces (flat (k + 1) f)
@@ -32,6 +45,16 @@ side_next f k = rw add-one (sym (spaces_append (flat k f) (f k)))
 pub rows_next : (f : ℕ → List ℕ) (k : ℕ) → after_spaces (rows k f) ++ after_spaces (f k ∷ []) ≡ after_spaces (rows (k + 1) f)
 unfolding rows
 rows_next f k = rw add-one (sym (spaces_append (rows k f) (f k ∷ [])))
+
+-- the same behind what stands on a page
+module _ (page : List ℕ) where
+  pub side_added : (f : ℕ → List (List ℕ)) (k : ℕ) {new last : List ℕ} → new ≡ page ++ after_spaces (flat k f) → last ≡ new ++ after_spaces (f k)
+      → last ≡ page ++ after_spaces (flat (k + 1) f)
+  side_added f k x y = added_two page (after_spaces (flat k f)) (after_spaces (f k)) x y (side_next f k)
+
+  pub rows_added : (f : ℕ → List ℕ) (k : ℕ) {new last : List ℕ} → new ≡ page ++ after_spaces (rows k f) → last ≡ new ++ after_spaces (f k ∷ [])
+      → last ≡ page ++ after_spaces (rows (k + 1) f)
+  rows_added f k x y = added_two page (after_spaces (rows k f)) (after_spaces (f k ∷ [])) x y (rows_next f k)
 
 -- ---- none yet
 pub no_side : (f : ℕ → List (List ℕ)) → [] ≡ after_spaces (flat 0 f)
@@ -158,6 +181,19 @@ module _ (ran : Ran) (room : List ℕ) where
   pub printed_refused : {n : ℕ} → n ≡ number ran.answer → (n ≡ 0 → ⊥) → refused_line n ≡ printed ran room
   unfolding printed
   printed_refused {n} e f = rw (e, ne_eqb (number ran.answer) 0 (λ z. f (e ∙ z)))
+
+  -- on a page that was empty
+  pub done_whole : number ran.answer ≡ 0 → {empty answered shown recorded last : List ℕ}
+      → empty ≡ []
+      → answered ≡ empty ++ command_lines ran.commands room
+      → shown ≡ answered ++ object_lines ran.board
+      → recorded ≡ shown ++ ring_lines ran.board
+      → last ≡ recorded ++ last_line ran.board
+      → last ≡ printed ran room
+  done_whole e a b c d f = rw (f, d, c, b, a) (printed_done e)
+
+  pub refused_whole : {n : ℕ} → n ≡ number ran.answer → (n ≡ 0 → ⊥) → {empty last : List ℕ} → empty ≡ [] → last ≡ empty ++ refused_line n → last ≡ printed ran room
+  refused_whole e f a b = rw (b, a) (printed_refused e f)
 
 -- of a sheet, and of what its run handed back
 pub sheet_printed : (s : List ℕ) {start : List ℕ} {ran : Ran} {room : List ℕ} → start ≡ s

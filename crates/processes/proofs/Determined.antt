@@ -1,5 +1,5 @@
 -- The contracts of the handlers determine their results, whether or not the numbers are in range.
-use mathlib.Core.Path.{refl}
+use Rattle.std.proofs.Common.{refl}
 use seplogic.Ra.Ura.{Ura}
 use base.Logic.{SProp}
 use prog.Memory.{Memory}

@@ -1,2 +1,3 @@
 -- Laws that the proofs share, and that the contracts determine.
+pub mod Refusals
 pub mod Determined

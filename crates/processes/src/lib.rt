@@ -1,4 +1,6 @@
 // What the home of a process does on a command and on a grant: one process's book.
+// That an object's number is below 16 is asked of each call and stands in no type: it comes from a packed command or from a message's kind, a
+// record with public fields, and every call would wrap it.
 #![tactic(auto)]
 
 ghost use Rattle.std.specs.Prelude.{◌≡◌, ◌<◌};
@@ -7,21 +9,20 @@ ghost use Rattle.rules.specs.Home as Home;
 ghost use Rattle.processes.specs.Tests as Tests;
 
 use rules::{Answer, Mode, Process, Wait};
+use values::bits::{has, marked, without};
+use values::mode::is_exclusive;
 
 pub fn is_waiting(w: Wait) -> bool
     ensures { result ≡ Home.is_waiting w }
 {
-    match w {
-        Wait::NotWaiting => false,
-        Wait::Waiting(_, _) => true,
-    }
+    matches!(w, Wait::Waiting(..))
 }
 
 pub fn holds(p: Process, o: u8) -> bool
     requires { o < 16 }
     ensures { result ≡ Home.holding p o }
 {
-    values::bits::has(p.shared | p.exclusive, o)
+    has(p.shared | p.exclusive, o)
 }
 
 // The home notes the wait.
@@ -29,10 +30,8 @@ pub fn asking(p: Process, o: u8, m: Mode) -> Process
     ensures { result ≡ Home.asking p o m }
 {
     Process {
-        shared: p.shared,
-        exclusive: p.exclusive,
         wait: Wait::Waiting(o, m),
-        released: p.released,
+        ..p
     }
 }
 
@@ -41,12 +40,11 @@ pub fn dropping(p: Process, o: u8) -> Process
     requires { o < 16 }
     ensures { result ≡ Home.dropping p o }
 {
-    let w = p.wait;
     Process {
-        shared: values::bits::without(p.shared, o),
-        exclusive: values::bits::without(p.exclusive, o),
-        wait: w,
+        shared: without(p.shared, o),
+        exclusive: without(p.exclusive, o),
         released: true,
+        ..p
     }
 }
 
@@ -55,12 +53,29 @@ pub fn granted(p: Process, o: u8, m: Mode) -> Process
     requires { o < 16 }
     ensures { result ≡ Home.granted p o m }
 {
-    let x = values::mode::is_exclusive(m);
+    let exclusive = is_exclusive(m);
     Process {
-        shared: values::bits::marked(p.shared, o, !x),
-        exclusive: values::bits::marked(p.exclusive, o, x),
+        shared: marked(p.shared, o, !exclusive),
+        exclusive: marked(p.exclusive, o, exclusive),
         wait: Wait::NotWaiting,
-        released: p.released,
+        ..p
+    }
+}
+
+// The refusals that a request and a release have in common, in their order. The numbers come one by one and in no record: they are locals
+// of the engine's loop, which would put a record together for each command only to have it taken apart here.
+#[inline]
+fn common_refusal(p: u8, o: u8, processes: u8, objects: u8, book: Process) -> Option<Answer>
+    ensures { result ≡ Tests.refusal_of (Tests.common_tests p o processes objects book) }
+{
+    if processes <= p {
+        Some(Answer::NoProcess)
+    } else if objects <= o {
+        Some(Answer::NoObject)
+    } else if is_waiting(book.wait) {
+        Some(Answer::ProcessWaits)
+    } else {
+        None
     }
 }
 
@@ -69,23 +84,15 @@ pub fn request_answer(p: u8, o: u8, processes: u8, objects: u8, book: Process) -
     requires { o < 16 }
     ensures { result ≡ Answers.first_of (Tests.home_request_tests p o processes objects book) }
 {
-    if processes <= p {
-        return Answer::NoProcess;
+    if let Some(refusal) = common_refusal(p, o, processes, objects, book) {
+        refusal
+    } else if book.released {
+        Answer::HasReleased
+    } else if holds(book, o) {
+        Answer::HoldsAlready
+    } else {
+        Answer::Done
     }
-    if objects <= o {
-        return Answer::NoObject;
-    }
-    let w = book.wait;
-    if is_waiting(w) {
-        return Answer::ProcessWaits;
-    }
-    if book.released {
-        return Answer::HasReleased;
-    }
-    if holds(book, o) {
-        return Answer::HoldsAlready;
-    }
-    Answer::Done
 }
 
 // The refusals of a release, in their order, but that of the load.
@@ -93,18 +100,11 @@ pub fn release_answer(p: u8, o: u8, processes: u8, objects: u8, book: Process) -
     requires { o < 16 }
     ensures { result ≡ Answers.first_of (Tests.home_release_tests p o processes objects book) }
 {
-    if processes <= p {
-        return Answer::NoProcess;
+    if let Some(refusal) = common_refusal(p, o, processes, objects, book) {
+        refusal
+    } else if holds(book, o) {
+        Answer::Done
+    } else {
+        Answer::HoldsNot
     }
-    if objects <= o {
-        return Answer::NoObject;
-    }
-    let w = book.wait;
-    if is_waiting(w) {
-        return Answer::ProcessWaits;
-    }
-    if holds(book, o) {
-        return Answer::Done;
-    }
-    Answer::HoldsNot
 }

@@ -1,58 +1,53 @@
 -- Laws of a program's argument: a word is compared byte by byte, and each case of the definition is one test of the code. Assumes nothing.
-use mathlib.Core.Path.{◌≡◌, refl, sym, ap₂, ◌∙◌}
-use mathlib.Core.Bool.{Bool, true, false}
-use mathlib.Core.List.{List, [], ◌∷◌}
-use Prim.Native.Nat.{ℕ, ◌<◌}
-use native.Mathlib.Omega.{arith}
-use lib.Dec.{eqb}
-use lib.ListN.{length, get_or}
-use borrow.Author.Tests.{eqb-true}
-use Rattle.rules.specs.Tables.{pick}
-use Rattle.rules.proofs.Tables.{by_test, not_passed, true_not_false}
+use Rattle.std.proofs.Common.{◌≡◌, refl, sym, ◌∙◌, ap, Bool, true, false, List, [], ◌∷◌, ℕ, eqb, take}
+use borrow.Author.Tests.{eqb-true, eq-eqb, ne_eqb}
+use Rattle.std.specs.Cmp.Lexicographic.{pointwise}
+use Rattle.rules.specs.Tables.{either}
+use Rattle.rules.proofs.Tables.{by_test, true_not_false}
 use Rattle.text.specs.Text.{bytes}
 use Rattle.program.specs.declared.Argument.TheVariants.{Help, StandardInput, File, Unknown}
 use Rattle.program.specs.Argument.{is, dashed, argument_of}
 
--- ---- a word that is another
-is_equal : (v w : List ℕ) → is v w ≡ true → v ≡ w
+-- the library's test of two slices is that of the definition
+is_same : (v w : List ℕ) → pointwise eqb v w ≡ is v w
 unfolding is
-is_equal [] [] e = refl
-is_equal [] (y ∷ w) e = absurd (true_not_false (sym e))
-is_equal (x ∷ v) [] e = absurd (true_not_false (sym e))
-is_equal (x ∷ v) (y ∷ w) e =
-    by_test (eqb x y)
-    (λ t. ap₂ (λ (a : ℕ) (l : List ℕ). a ∷ l) (eqb-true x y t) (is_equal v w (rw t at e)))
-    (λ f. absurd (true_not_false (sym (rw f at e))))
+is_same [] [] = refl
+is_same [] (y ∷ w) = refl
+is_same (x ∷ v) [] = refl
+is_same (x ∷ v) (y ∷ w) = by_test (eqb x y) (λ t. rw t (is_same v w)) (λ f. rw f)
 
-is_not : (v w : List ℕ) (r : Bool) → (v ≡ w → r ≡ true) → r ≡ false → is v w ≡ false
-is_not v w r f e = not_passed (is v w) (λ t. true_not_false (sym (f (is_equal v w t)) ∙ e))
+pub is_word : (w v : List ℕ) {read : List ℕ} {r : Bool} → r ≡ pointwise eqb w read → read ≡ v → r ≡ is w v
+is_word w v e f = e ∙ ap (pointwise eqb w) f ∙ is_same w v
 
--- ---- it begins with a dash
-pub no_dash : (w : List ℕ) → length w ≡ 0 → false ≡ dashed w
-no_dash [] e = refl
-no_dash (c ∷ w) e = absurd (omega arith)
+pub first_word : (w : List ℕ) {a : Bool} → a ≡ is w (bytes "--help") → a ≡ true → a ≡ either (is w (bytes "--help")) (is w (bytes "-h"))
+first_word w e f = rw (sym e ∙ f) f
 
-pub first_dash : (w : List ℕ) → 0 < length w → eqb (get_or w 0 0) 45 ≡ dashed w
-first_dash [] h = absurd (omega arith)
-first_dash (c ∷ w) h = refl
+pub second_word : (w : List ℕ) {a b : Bool} → a ≡ is w (bytes "--help") → a ≡ false → b ≡ is w (bytes "-h") → b ≡ either (is w (bytes "--help")) (is w (bytes "-h"))
+second_word w e f g = rw (sym e ∙ f) g
 
--- ---- the cases
-pub long_help : (w : List ℕ) → w ≡ bytes "--help" → Help ≡ argument_of w
-unfolding argument_of is
-long_help w e = rw e
+-- it begins with a dash
+first_dash : (w : List ℕ) → pointwise eqb (45 ∷ []) (take 1 w) ≡ dashed w
+first_dash [] = refl
+first_dash (c ∷ w) = by_test (eqb 45 c)
+    (λ t. rw (sym (eqb-true 45 c t)))
+    (λ f. rw (f, ne_eqb c 45 (λ e. true_not_false (sym (eq-eqb 45 c (sym e)) ∙ f))))
 
-pub short_help : (w : List ℕ) → w ≡ bytes "-h" → Help ≡ argument_of w
-unfolding argument_of is
-short_help w e = rw e
-
-pub dash_alone : (w : List ℕ) → w ≡ bytes "-" → StandardInput ≡ argument_of w
-unfolding argument_of is
-dash_alone w e = rw e
-
--- none of the three words, by the answers of three tests
-module _ (w : List ℕ) {l s a : Bool}
-    (long : w ≡ bytes "--help" → l ≡ true) (short : w ≡ bytes "-h" → s ≡ true) (alone : w ≡ bytes "-" → a ≡ true) where
-  pub any_other : l ≡ false → s ≡ false → a ≡ false → (d : Bool) → d ≡ dashed w → pick d Unknown File ≡ argument_of w
+-- the cases, by the tests of the code one after another
+module _ (w : List ℕ) {help : Bool} (h : help ≡ either (is w (bytes "--help")) (is w (bytes "-h"))) where
+  pub is_help : help ≡ true → Help ≡ argument_of w
   unfolding argument_of
-  any_other not-long not-short not-alone d e =
-      rw (e, is_not w _ l long not-long, is_not w _ s short not-short, is_not w _ a alone not-alone)
+  is_help t = rw (sym h ∙ t)
+
+  module _ {dash : Bool} (d : dash ≡ is w (bytes "-")) (no : help ≡ false) where
+    pub is_input : dash ≡ true → StandardInput ≡ argument_of w
+    unfolding argument_of
+    is_input t = rw (sym h ∙ no, sym d ∙ t)
+
+    module _ {begins : Bool} (b : begins ≡ pointwise eqb (45 ∷ []) (take 1 w)) (other : dash ≡ false) where
+      pub is_unknown : begins ≡ true → Unknown ≡ argument_of w
+      unfolding argument_of
+      is_unknown t = rw (sym h ∙ no, sym d ∙ other, sym (first_dash w) ∙ sym b ∙ t)
+
+      pub is_file : begins ≡ false → File ≡ argument_of w
+      unfolding argument_of
+      is_file t = rw (sym h ∙ no, sym d ∙ other, sym (first_dash w) ∙ sym b ∙ t)

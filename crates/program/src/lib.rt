@@ -2,24 +2,25 @@
 // error, and nothing else is. What an argument is taken for is an equation with its definition in specs/.
 #![tactic(auto)]
 
-ghost use Rattle.std.specs.Prelude.{◌≡◌, ◌≢◌, ◌<◌, length, take, IfSome, None};
+ghost use Rattle.std.specs.Prelude.{◌≡◌, ◌≢◌, ◌<◌, [], length, take, IfOk, IfErr, MatchResult, Ok};
 ghost use Rattle.io.specs.Counts.{IsPrefixLen};
 ghost use Rattle.std.specs.IoError.{error_kind};
 ghost use Rattle.std.specs.Io.KnownBytes.{Consumes, IsAtEnd};
-ghost use Rattle.program.specs.Argument.{argument_of, dashed};
+ghost use Rattle.rules.specs.Tables.{either};
+ghost use Rattle.text.specs.Text.{bytes};
+ghost use Rattle.program.specs.Argument.{is, argument_of};
 
-use check::same;
 use std::env::{Env, FillError};
 use std::fs;
 use std::fs::Files;
-use std::io::{Error, ErrorKind, IsTerminal, Result};
+use std::io::{Error, ErrorKind, IsTerminal};
 
 mod told;
 
-pub use told::{Errors, failed};
+pub use told::{Errors, Told, failed};
 
 // What an argument is taken for.
-#[derive(Clone, Copy)]
+#[derive(Clone, Copy, PartialEq, Eq)]
 pub enum Argument {
     Help,
     StandardInput,
@@ -34,23 +35,15 @@ pub enum Origin<S, F> {
     File(F),
 }
 
-// What a program reads, and how many bytes of the lent room the file's name has (standard input has no name). A program that has ended has
-// nothing to read, and has said why or shown its help.
+// What a program reads, and the name of the file that it is; standard input has no name.
 #[derive(Drop)]
-pub enum Source<S, F> {
-    Reads { from: Origin<S, F>, named: usize },
-    Ended,
-}
-
-// What came of reading: how many bytes, and why a read failed if one did. No byte and no failure is the end of the input.
-#[derive(Clone, Copy)]
-pub struct Read {
-    pub count: usize,
-    pub failed: Option<Error>,
+pub struct Source<'a, S, F> {
+    pub from: Origin<S, F>,
+    pub named: Option<&'a [u8]>,
 }
 
 impl<S: std::io::Read, F: std::io::Read> std::io::Read for Origin<S, F> {
-    fn read(&mut self, buf: &mut [u8]) -> Result<usize> {
+    fn read(&mut self, buf: &mut [u8]) -> std::io::Result<usize> {
         match self {
             Origin::StandardInput(input) => input.read(buf),
             Origin::File(file) => file.read(buf),
@@ -67,165 +60,137 @@ impl<S: IsTerminal, F: IsTerminal> IsTerminal for Origin<S, F> {
     }
 }
 
-fn begins_with_dash(word: &[u8]) -> bool
-    ensures { result ≡ dashed word.now }
+fn asks_for_help(word: &[u8]) -> bool
+    ensures { result ≡ either (is word.now (bytes "--help")) (is word.now (bytes "-h")) }
 {
-    if word.len() == 0 {
-        return false;
-    }
-    word[0] == b'-'
+    word == b"--help".as_slice() || word == b"-h".as_slice()
 }
 
 // What a word is taken for that is a program's argument.
 pub fn argument_of(word: &[u8]) -> Argument
     ensures { result ≡ argument_of word.now }
 {
-    if same(word, b"--help") {
-        return Argument::Help;
+    if asks_for_help(word) {
+        Argument::Help
+    } else if word == b"-".as_slice() {
+        Argument::StandardInput
+    } else if word.starts_with(b"-") {
+        Argument::Unknown
+    } else {
+        Argument::File
     }
-    if same(word, b"-h") {
-        return Argument::Help;
-    }
-    if same(word, b"-") {
-        return Argument::StandardInput;
-    }
-    if begins_with_dash(word) {
-        return Argument::Unknown;
-    }
-    Argument::File
 }
 
-fn refused<S, F>(rt: &impl Errors, why: &[u8], word: &[u8]) -> Source<S, F> {
+fn refused(rt: &impl Errors, why: &[u8], word: &[u8]) {
     rt.tell(why);
     rt.tell(word);
     rt.tell(b" (--help says what is taken)\n");
-    Source::Ended
 }
 
-fn standard_input<R: Files + Input>(rt: &R) -> Source<R::Reader, R::File> {
-    Source::Reads {
+fn standard_input<'a, R: Files + Input>(rt: &R) -> Source<'a, R::Reader, R::File> {
+    Source {
         from: Origin::StandardInput(rt.reader()),
-        named: 0,
+        named: None,
     }
 }
 
 // The file that has this name. A name that is no text (UTF-8) names no file here: it is told that the name is not one.
-pub fn file_of<R: Files>(rt: &R, name: &[u8]) -> Result<R::File> {
+pub fn file_of<R: Files>(rt: &R, name: &[u8]) -> std::io::Result<R::File> {
     match str::from_utf8(name) {
         Ok(path) => fs::open(rt, path),
         Err(_) => Err(Error::from(ErrorKind::InvalidFilename)),
     }
 }
 
-fn opened<R: Files + Input + Errors>(rt: &R, name: &[u8]) -> Source<R::Reader, R::File> {
+fn opened<'a, R: Files + Input + Errors>(
+    rt: &R,
+    name: &'a [u8],
+) -> Option<Source<'a, R::Reader, R::File>> {
     match file_of(rt, name) {
-        Ok(file) => Source::Reads {
+        Ok(file) => Some(Source {
             from: Origin::File(file),
-            named: name.len(),
-        },
+            named: Some(name),
+        }),
         Err(why) => {
             failed(rt, name, why);
-            Source::Ended
+            None
         }
     }
 }
 
 // What the one argument comes to: the help is shown, a file is opened, or it is told what is wrong.
-fn taken<R: Files + Input + Print + Errors>(
+fn taken<'a, R: Files + Input + Print + Errors>(
     rt: &R,
-    word: &[u8],
+    word: &'a [u8],
     help: &[u8],
-) -> Source<R::Reader, R::File> {
+) -> Option<Source<'a, R::Reader, R::File>> {
     match argument_of(word) {
         Argument::Help => {
-            write(rt, help);
-            Source::Ended
+            let _ = write(rt, help);
+            None
         }
-        Argument::StandardInput => standard_input(rt),
+        Argument::StandardInput => Some(standard_input(rt)),
         Argument::File => opened(rt, word),
-        Argument::Unknown => refused(rt, b"no such argument: ", word),
+        Argument::Unknown => {
+            refused(rt, b"no such argument: ", word);
+            None
+        }
     }
 }
 
 // Whether there is a second argument, of any length.
 fn has_second(rt: &impl Env) -> bool {
-    let mut room = [0u8; 1];
-    match rt.arg(2, &mut room) {
-        Err(FillError::NotPresent) => false,
-        _ => true,
-    }
+    !matches!(rt.arg(2, &mut [0u8; 1]), Err(FillError::NotPresent))
 }
 
-// What the program reads. Its file's name is put into the lent room, for `read_failed`.
-pub fn start<R: Env + Files + Input + Print + Errors>(
+// What the program reads. A program that has ended has nothing to read, and has said why or shown its help. A file's name is put into the
+// lent room.
+pub fn start<'a, R: Env + Files + Input + Print + Errors>(
     rt: &R,
     help: &[u8],
-    name: &mut [u8; 4096],
-) -> Source<R::Reader, R::File> {
-    let word = rt.arg(1, name);
-    if let Err(FillError::NotPresent) = word {
-        return standard_input(rt);
-    }
-    if has_second(rt) {
-        return refused(rt, b"one file at most", b"");
-    }
-    match word {
-        Ok(n) => taken(rt, text::start(name, n), help),
+    room: &'a mut [u8; 4096],
+) -> Option<Source<'a, R::Reader, R::File>> {
+    match rt.arg(1, room) {
+        Err(FillError::NotPresent) => Some(standard_input(rt)),
+        _ if has_second(rt) => {
+            refused(rt, b"one file at most", b"");
+            None
+        }
+        Ok(n) => taken(rt, &room[..n], help),
         Err(_) => {
             rt.tell(b"the argument: File name too long\n");
-            Source::Ended
+            None
         }
     }
 }
 
-// All of it on standard output. Where that fails it is told, and the answer is no.
-pub fn write(rt: &(impl Print + Errors), bytes: &[u8]) -> bool {
+// All of it on standard output. Where that fails it is told.
+pub fn write(rt: &(impl Print + Errors), bytes: &[u8]) -> Result<(), Told> {
     match rt.write_all(bytes) {
-        Ok(()) => true,
-        Err(why) => {
-            failed(rt, b"standard output", why);
-            false
-        }
+        Ok(()) => Ok(()),
+        Err(why) => Err(failed(rt, b"standard output", why)),
     }
 }
 
 // One read, of as many bytes as there are, up to the piece's length. One that a signal broke off is tried again; a proved loop has to end,
-// so the tries are counted. Of a reader whose bytes are known, those that were read stand in the piece, in their order, and no byte and no
-// failure says that none is left.
-pub fn read_some<R: std::io::Read>(from: &mut R, piece: &mut [u8]) -> Read
-    ensures within { IsPrefixLen result.count piece.new }
-    ensures bytes { Consumes (R.remaining from.old) (R.remaining from.new) (take result.count piece.new) }
-    ensures retried { IfSome result.failed (λ why. error_kind why ≢ ErrorKind.Interrupted) }
-    ensures end { result ≡ record { count = 0; failed = None } → 0 < length piece.old → IsAtEnd (R.remaining from.new) }
+// so the tries are counted. Of a reader whose bytes are known, those that were read stand in the piece, in their order, and no byte says
+// that none is left; a read that failed took none.
+pub fn read_some<R: std::io::Read>(from: &mut R, piece: &mut [u8]) -> std::io::Result<usize>
+    ensures within { IfOk result (λ count. IsPrefixLen count piece.new) }
+    ensures bytes { MatchResult result (λ count. Consumes (R.remaining from.old) (R.remaining from.new) (take count piece.new)) (λ _. Consumes (R.remaining from.old) (R.remaining from.new) []) }
+    ensures retried { IfErr result (λ why. error_kind why ≢ ErrorKind.Interrupted) }
+    ensures end { result ≡ Ok 0 → 0 < length piece.old → IsAtEnd (R.remaining from.new) }
 {
     for _ in 0..u64::MAX {
         match from.read(piece) {
-            Ok(count) => {
-                return Read {
-                    count,
-                    failed: None,
-                };
-            }
             Err(why) if why.kind() == ErrorKind::Interrupted => {}
-            Err(why) => {
-                return Read {
-                    count: 0,
-                    failed: Some(why),
-                };
-            }
+            read => return read,
         }
     }
-    Read {
-        count: 0,
-        failed: Some(Error::from(ErrorKind::TimedOut)),
-    }
+    Err(Error::from(ErrorKind::TimedOut))
 }
 
-// Tells why the last read failed, under the file's name that `start` put into the room.
-pub fn read_failed(rt: &impl Errors, name: &[u8; 4096], named: usize, why: Error) {
-    if named == 0 {
-        failed(rt, b"standard input", why);
-        return;
-    }
-    failed(rt, text::start(name, named), why);
+// Tells why the last read failed, under the name that `start` found for what is read.
+pub fn read_failed(rt: &impl Errors, named: Option<&[u8]>, why: Error) -> Told {
+    failed(rt, named.unwrap_or(b"standard input"), why)
 }

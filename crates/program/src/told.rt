@@ -1,5 +1,11 @@
 // What is told on standard error: what failed, a colon, and why, in the system's words.
-use std::io::{Cursor, Error, IsTerminal, Write};
+use arrayvec::ArrayString;
+use std::fmt::Write;
+use std::io::{Error, IsTerminal};
+
+// What failed has been told on standard error, and nothing is left to tell.
+#[derive(Clone, Copy, Debug, PartialEq, Eq)]
+pub struct Told;
 
 // Standard error: bytes, which need not be text, and whether they come to a terminal. A telling that fails is let be, since there is no other
 // place to tell it.
@@ -21,22 +27,17 @@ impl Errors for HostRuntime {
 
 // The words of an error, without the number that stands behind them.
 fn words(text: &str) -> &str {
-    match text.split_once(" (os error ") {
-        Some((words, _)) => words,
-        None => text,
-    }
+    text.split_once(" (os error ")
+        .map_or(text, |(words, _)| words)
 }
 
 // Writes a line: what failed, as the caller names it, and why.
-pub fn failed(rt: &impl Errors, what: &[u8], why: Error) {
-    let mut room = [0u8; 320];
-    let mut line = Cursor::new(&mut room[..]);
-    let _ = write!(line, "{why}");
-    let n = line.position() as usize;
+pub fn failed(rt: &impl Errors, what: &[u8], why: Error) -> Told {
+    let mut text = ArrayString::<320>::new();
+    let _ = write!(text, "{why}");
     rt.tell(what);
     rt.tell(b": ");
-    if let Ok(text) = str::from_utf8(text::start(&room, n)) {
-        rt.tell(words(text).as_bytes());
-    }
+    rt.tell(words(text.as_str()).as_bytes());
     rt.tell(b"\n");
+    Told
 }

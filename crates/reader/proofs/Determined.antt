@@ -1,5 +1,5 @@
 -- The contracts of the crate's public functions determine what they answer: value, reading place, and the bytes of what is left.
-use mathlib.Core.Path.{◌≡◌, refl, sym, ◌∙◌}
+use Rattle.std.proofs.Common.{◌≡◌, refl, sym, ◌∙◌, ℕ, ◌+◌, ◌*◌, ◌/◌, Bool, List, length, drop}
 use seplogic.Ra.Ura.{Ura}
 use base.Logic.{SProp}
 use prog.Memory.{Memory}
@@ -7,21 +7,17 @@ use prog.Routine.{Routine}
 use types.Logic.{Logic}
 use contract.Monad.{Fun}
 use denote.Ref.{Bor}
-use Prim.Native.Nat.{ℕ, ◌+◌, ◌*◌, ◌/◌}
-use mathlib.Core.Bool.{Bool}
-use mathlib.Core.List.{List}
-use lib.ListN.{length, drop}
 use denote.Triple.Clauses.{Ended, Clauses}
 use Rattle.rules.specs.Sheet as Sheet
 use Rattle.rules.specs.Determined.{View, Determined}
 use Rattle.rules.proofs.Determined.{Given, Says, by_fact, by_equation, by_equations}
 use Rattle.reader.specs.Place as Place
 use Rattle.reader.specs.Found as Found
-use Rattle.reader.specs.contracts.new as new
-use Rattle.reader.specs.contracts.read as read
-use Rattle.reader.specs.contracts.homes as homes
-use Rattle.reader.specs.contracts.rest as rest
-use Rattle.reader.specs.contracts.commands as commands
+use Rattle.reader.specs.contracts.Reader.new as new
+use Rattle.reader.specs.contracts.Reader.read as read
+use Rattle.reader.specs.contracts.Reader.homes as homes
+use Rattle.reader.specs.contracts.Reader.rest as rest
+use Rattle.reader.specs.contracts.Reader.commands as commands
 use Rattle.reader.specs.contracts.read_sheet as read-sheet
 use Rattle.reader.specs.contracts.rest_from as rest-from
 

@@ -1,16 +1,12 @@
 -- A field read off the bytes that it lies in, and the homes read field by field. Assumes nothing.
-use mathlib.Core.Path.{◌≡◌, refl, sym, ap, ◌∙◌}
-use mathlib.Core.List.{List}
-use mathlib.Core.Logic.{◌≢◌}
-use Prim.Native.Nat.{ℕ, ◌+◌, ◌-◌, ◌*◌, ◌/◌, ◌%◌, ◌^◌, ◌≤◌, ◌<◌}
-use native.Mathlib.Omega.{arith}
-use native.Mathlib.Decide.{ℕ_discrete, dec_lt}
-use lib.Dec.{ltb}
-use lib.ListN.{length, get_or, set, replicate, length-set}
-use lib.Seq.{ext_get_or, get_or-set_same, get_or-set_other}
-use lib.Pow.{pow_pos, high, low, shl_exact}
+use Rattle.std.proofs.Common.{◌≡◌, refl, sym, ap, ◌∙◌, List, ◌++◌, ℕ, ◌+◌, ◌-◌, ◌*◌, ◌/◌, ◌%◌, ◌^◌, ◌≤◌, ◌<◌, arith, ltb, length, get_or, replicate, drop, length-append, length-drop}
+use Rattle.std.proofs.Math.Decide.{dec_lt}
+use Rattle.std.proofs.Math.ListN.{get_or-append, length-replicate}
+use Rattle.std.proofs.Math.Seq.{ext_get_or, get_or-append_right}
+use Rattle.std.proofs.lemmas.List.{get_or-drop, get_or-replicate}
+use lib.Pow.{high, low, shl_exact}
 use borrow.Author.Tests.{lt-ltb, le-ltb}
-use Rattle.rules.specs.Tables.{pick, rows}
+use Rattle.rules.specs.Tables.{pick}
 use Rattle.rules.specs.Sheet.{field, homes_from}
 use Rattle.rules.proofs.Tables.{rows_length, rows_at}
 use Rattle.rules.proofs.Sheet.{field_below, field_split, field_in_byte}
@@ -56,9 +52,6 @@ module _ (s : List ℕ) (i : ℕ) (h : get_or s i 0 < 256) (m : get_or s (i + 1)
 mask_is : (n : ℕ) → n ≤ 16 → 1 * 2 ^ n % 2 ^ 64 ≡ 2 ^ n
 mask_is n few = shl_exact 1 n 64 (omega arith) (omega arith) ∙ omega arith
 
-pub mask_some : (n : ℕ) → n ≤ 16 → 0 < 1 * 2 ^ n % 2 ^ 64
-mask_some n few = rw (mask_is n few) (pow_pos n)
-
 -- at most 16 bits lie in the three bytes h, m and l from their first bit's byte on
 module _ (s : List ℕ) (at n : ℕ) {h m l : ℕ} (few : n ≤ 16) (h_fits : h < 256) (m-fits : m < 256) (l-fits : l < 256)
     (h-is : h ≡ get_or s (at / 8) 0) (m-is : m ≡ get_or s (at / 8 + 1) 0) (l-is : l ≡ get_or s (at / 8 + 2) 0) where
@@ -84,41 +77,28 @@ module _ (s : List ℕ) (at n : ℕ) {h m l : ℕ} (few : n ≤ 16) (h_fits : h 
   field_of_bytes = rw (mask_is n few, shifted) (refl, field_below s at n)
 
 -- ---- homes
--- one more place is below the limit, and no other changes its side
-below_next : (k j : ℕ) → j ≢ k → ltb j k ≡ ltb j (k + 1)
-below_next k j f = elim (dec_lt j k) [
-  | yes h ↦ lt-ltb j k h ∙ sym (lt-ltb j (k + 1) (omega arith))
-  | no h ↦ le-ltb j k (omega arith) ∙ sym (le-ltb j (k + 1) (omega (arith, f)))
-]
-
-module _ (s : List ℕ) (at : ℕ) where
-  homes_length : (n : ℕ) → length (homes_from s at n) ≡ 16
+module _ (s : List ℕ) (at n : ℕ) where
+  homes_length : length (homes_from s at n) ≡ 16
   unfolding homes_from
-  homes_length n = rows_length 16 _
+  homes_length = rows_length 16 _
 
-  homes_at : (n k : ℕ) → k < 16 → get_or (homes_from s at n) k 0 ≡ pick (ltb k n) (field s (at + 3 * k) 3) 0
+  homes_at : (k : ℕ) → k < 16 → get_or (homes_from s at n) k 0 ≡ pick (ltb k n) (field s (at + 3 * k) 3) 0
   unfolding homes_from
-  homes_at n k h = rows_at 16 _ k 0 h
+  homes_at k h = rows_at 16 _ k 0 h
 
-  pub homes_none : replicate 16 0 ≡ homes_from s at 0
-  unfolding homes_from rows
-  homes_none = refl
+  abbrev rest : List ℕ
+  rest = drop n (replicate 16 0)
 
-  -- one home more is put into its place
-  more : ℕ → List ℕ
-  more k = set (homes_from s at k) k (field s (at + 3 * k) 3)
+  -- n homes, and zeros in the places past them
+  pub homes_filled : (row : List ℕ) → n ≤ 16 → length row ≡ n → ((k : ℕ) → k < n → get_or row k 0 ≡ field s (at + 3 * k) 3) → row ++ drop n (replicate 16 0) ≡ homes_from s at n
+  homes_filled row few size here = ext_get_or 0 (row ++ rest) (homes_from s at n) (sizes ∙ sym homes_length) (λ k h. place k (omega (arith, sizes)))
+    where
+      sizes : length (row ++ rest) ≡ 16
+      sizes = omega (arith, length-append row rest, length-drop {A = ℕ} n (replicate 16 0), length-replicate {A = ℕ} 16 0)
 
-  more_length : (k : ℕ) → length (more k) ≡ 16
-  unfolding more
-  more_length k = simp length-set (homes_length k)
-
-  more_at : (k j : ℕ) → k < 16 → j < 16 → get_or (more k) j 0 ≡ get_or (homes_from s at (k + 1)) j 0
-  unfolding more
-  more_at k j h l = elim (ℕ_discrete j k) [
-    | yes z ↦ rw (z, homes_at (k + 1) k h, lt-ltb k (k + 1) (omega arith)) (get_or-set_same (homes_from s at k) k (field s (at + 3 * k) 3) 0 (omega (arith, homes_length k)))
-    | no f ↦ get_or-set_other (homes_from s at k) k j (field s (at + 3 * k) 3) 0 f ∙ homes_at k j l ∙ rw (below_next k j f) (sym (homes_at (k + 1) j l))
-  ]
-
-  pub homes_next : (k : ℕ) {row : List ℕ} {x : ℕ} → k < 16 → row ≡ homes_from s at k → x ≡ field s (at + 3 * k) 3 → set row k x ≡ homes_from s at (k + 1)
-  unfolding more
-  homes_next k h e f = rw (e, f) (ext_get_or 0 (more k) (homes_from s at (k + 1)) (more_length k ∙ sym (homes_length (k + 1))) (λ j l. more_at k j h (omega (arith, more_length k))))
+      place : (k : ℕ) → k < 16 → get_or (row ++ rest) k 0 ≡ get_or (homes_from s at n) k 0
+      place k h = elim (dec_lt k n) [
+        | yes l ↦ get_or-append row rest 0 k (omega arith) ∙ here k l ∙ sym (homes_at k h ∙ rw (lt-ltb k n l))
+        | no f ↦ get_or-append_right row rest k 0 (omega arith) ∙ get_or-drop n (replicate 16 0) (k - length row) 0
+            ∙ get_or-replicate 16 (n + (k - length row)) 0 0 (omega arith) ∙ sym (homes_at k h ∙ rw (le-ltb k n (omega arith)))
+      ]

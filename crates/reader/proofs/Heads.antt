@@ -1,12 +1,5 @@
 -- What the pass over a sheet finds, put together from what was read, and the bounds under which each part of it is read. Assumes nothing.
-use mathlib.Core.Path.{◌≡◌, ap, ap₂, ◌∙◌}
-use mathlib.Core.Bool.{Bool}
-use mathlib.Core.List.{List}
-use Prim.Native.Nat.{ℕ, ◌+◌, ◌-◌, ◌*◌, ◌/◌, ◌%◌, ◌^◌, ◌≤◌, ◌<◌}
-use native.Mathlib.Nat.{lt_of_le_of_lt, div-le_self, mod-le}
-use native.Mathlib.Omega.{arith}
-use lib.Dec.{lit≤}
-use lib.ListN.{length, drop, length-drop}
+use Rattle.std.proofs.Common.{◌≡◌, ap, ap₂, ◌∙◌, Bool, List, ℕ, ◌+◌, ◌-◌, ◌*◌, ◌/◌, ◌%◌, ◌≤◌, arith, lit≤, length, drop, length-drop}
 use Rattle.rules.specs.Sheet.{field, homes_from, any_spare}
 use Rattle.rules.proofs.Sheet.{field_below}
 use Rattle.reader.specs.declared.Found.{Found}
@@ -31,39 +24,11 @@ end_in h = 16 + 3 * processes_in h + 3 * objects_in h
 
 -- ---- bounds
 -- 3 or 4 bits, plus one, count to 16 at most
-pub nodes_few : (h : ℕ) → nodes_in h ≤ 16
-nodes_few h = omega arith
-
 pub count_few : (x : ℕ) → x % 16 + 1 ≤ 16
 count_few x = omega arith
 
 pub left_few : (a : ℕ) {j : ℕ} → j ≡ left_at a → j ≤ 16
 left_few a e = omega arith
-
-pub few_fits : {n : ℕ} → n ≤ 16 → n < 2 ^ 64
-few_fits h = omega arith
-
-pub div_fits : (h d : ℕ) → h < 2 ^ 64 → h / d < 2 ^ 64
-div_fits h d = lt_of_le_of_lt (div-le_self h d)
-
-pub mod_fits : (h d : ℕ) → h < 2 ^ 64 → h % d < 2 ^ 64
-mod_fits h d = lt_of_le_of_lt (mod-le h d)
-
--- the bits after the homes of p processes, and after those of o objects
-pub processes_near : {p : ℕ} → p ≤ 16 → 16 + 3 * p ≤ 4294967296
-processes_near h = omega arith
-
-pub homes_near : {p o : ℕ} → p ≤ 16 → o ≤ 16 → 16 + 3 * p + 3 * o ≤ 4294967296
-homes_near h g = omega arith
-
-pub near_fits : {a : ℕ} → a ≤ 4294967296 → a < 2 ^ 64
-near_fits h = omega arith
-
-pub past_fits : {a j : ℕ} → a ≤ 4294967296 → j ≤ 16 → a + j < 2 ^ 64
-past_fits h g = omega arith
-
-pub start_fits : {a j : ℕ} → a ≤ 4294967296 → j ≤ 16 → (a + j) / 8 < 2 ^ 64
-start_fits h g = omega arith
 
 -- ---- the byte's end: as many bits as are left, and the byte after them
 ends : {a e j : ℕ} → a ≡ e → j ≡ left_at a → (j ≡ 8 * ((e + 7) / 8) - e) × ((a + j) / 8 ≡ (e + 7) / 8)

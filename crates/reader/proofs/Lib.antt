@@ -2,10 +2,5 @@
 pub mod Fields
 pub mod Places
 pub mod Spared
-pub mod Held
-pub mod Lent
-pub mod Rows
-pub mod Leaves
-pub mod Constants
 pub mod Heads
 pub mod Determined

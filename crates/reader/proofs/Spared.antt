@@ -1,21 +1,14 @@
 -- Spare bits of commands: taken out of a command's 16 bits, gathered over many commands, and how many commands are read. Assumes nothing.
-use mathlib.Core.Path.{◌≡◌, refl, sym, ap, ◌∙◌}
-use mathlib.Core.Bool.{not}
-use mathlib.Core.List.{List}
-use Prim.Native.Nat.{ℕ, ◌+◌, ◌-◌, ◌*◌, ◌/◌, ◌%◌, ◌≤◌, ◌<◌}
-use native.Mathlib.Omega.{arith}
-use native.Mathlib.Numerals.{add-one}
-use native.Mathlib.Decide.{dec_lt}
-use lib.Bits.{bit_or}
-use lib.Dec.{eqb}
-use lib.ListN.{length, drop}
-use borrow.Author.Tests.{lt-ltb, le-ltb, le-leb, lt-leb, eq-eqb, ne_eqb}
+use Rattle.std.proofs.Common.{◌≡◌, refl, sym, ap, ◌∙◌, List, [], ◌∷◌, ◌++◌, ℕ, zero, suc, ◌+◌, ◌-◌, ◌*◌, ◌/◌, ◌%◌, ◌≤◌, ◌<◌, not, arith, add-one, add-zero, zero-add, eqb, drop, bit_or}
+use Rattle.std.proofs.Math.Decide.{dec_lt}
+use Rattle.std.specs.List.{fold, range_with_len}
+use Rattle.std.proofs.lemmas.List.Sums.{fold-append}
+use borrow.Author.Tests.{lt-ltb, le-ltb, le-leb, eq-eqb, ne_eqb}
 use Rattle.rules.specs.Tables.{all}
 use Rattle.rules.specs.Sheet.{field, command_spare, any_spare}
 use Rattle.rules.proofs.Bits.{or_none}
 use Rattle.rules.proofs.Sheet.{field_below, field_drop}
-use Rattle.reader.specs.declared.command.Spares.{Spares}
-use Rattle.reader.specs.Place.{least, commands_within, spare_in, spares_at}
+use Rattle.reader.specs.Place.{least, commands_within, spare_in}
 use Rattle.reader.proofs.Fields.{field_inside}
 
 -- ---- the spare bits, by the kind
@@ -27,6 +20,11 @@ six c h = elim (dec_lt (c / 16384) 2) [
 
 pub eight : (c : ℕ) → 2 < c / 16384 → c % 256 ≡ spare_in c
 eight c h = rw (le-ltb (c / 16384) 2 (omega arith), ne_eqb (c / 16384) 2 (λ z. omega arith))
+
+-- numbers from a on, and one more behind them
+range_more : (a n : ℕ) → range_with_len a (suc n) ≡ range_with_len a n ++ (a + n) ∷ []
+range_more a zero = ap (λ (x : ℕ). x ∷ []) (sym (add-zero a))
+range_more a (suc n) = ap (λ (l : List ℕ). a ∷ l) (range_more (a + 1) n ∙ ap (λ (x : ℕ). range_with_len (a + 1) n ++ x ∷ []) (omega arith))
 
 -- ---- one command of the part from byte `first` on
 module _ (s : List ℕ) (first : ℕ) where
@@ -52,59 +50,32 @@ module _ (s : List ℕ) (first : ℕ) where
       low_eight = omega (arith, field_inside part (16 * k) 8 8 0)
 
   -- what k commands have set is zero where none of them has a spare bit set
-  abbrev pub Gathered : ℕ → ℕ → Type 0
+  abbrev Gathered : ℕ → ℕ → Type 0
   Gathered set k = eqb set 0 ≡ all k (λ i. eqb (command_spare part i) 0)
 
-  pub gathered_none : Gathered 0 0
+  gathered_none : Gathered 0 0
   unfolding all
   gathered_none = refl
 
-  pub gathered_next : (k set : ℕ) {c x : ℕ} → Gathered set k → c ≡ field s (8 * (first + 2 * k)) 16 → x ≡ spare_in c → Gathered (bit_or set x) (k + 1)
+  gathered_next : (k set : ℕ) {c x : ℕ} → Gathered set k → c ≡ field s (8 * (first + 2 * k)) 16 → x ≡ spare_in c → Gathered (bit_or set x) (k + 1)
   unfolding all
   gathered_next k set {c} {x} g e f =
       let is : x ≡ command_spare part k = f ∙ ap spare_in (e ∙ sixteen_of k) ∙ spare_of k in
       or_none set x ∙ rw (add-one, g, is)
 
-  pub gathered_all : (k set : ℕ) {n : ℕ} → Gathered set k → k ≡ n → not (eqb set 0) ≡ any_spare part n
-  gathered_all k set g e = ap not g ∙ rw e
+  -- what is gathered of command k beside what was before
+  abbrev pub gather : ℕ → ℕ → ℕ
+  gather set k = bit_or set (spare_in (field s (8 * (first + 2 * k)) 16))
 
--- ---- how many commands are read
-module _ (l at n : ℕ) where
-  pub none_of_many : 4096 < n → 0 ≡ commands_within l at n
-  unfolding commands_within
-  none_of_many h = simp (lt-leb _ _ h)
+  gathered_below : (n : ℕ) → Gathered (fold gather 0 (range_with_len 0 n)) n
+  gathered_below zero = gathered_none
+  gathered_below (suc n) = rw (range_more 0 n, fold-append gather 0 (range_with_len 0 n) ((0 + n) ∷ []), zero-add) (rw add-one at (gathered_next n (fold gather 0 (range_with_len 0 n)) (gathered_below n) refl refl))
 
-  module _ (few : n ≤ 4096) where
-    pub none_far : 4294967296 < at → 0 ≡ commands_within l at n
-    unfolding commands_within
-    none_far h = simp (le-leb _ _ few, lt-leb _ _ h)
+  -- what is gathered of n commands is not zero where one of them has a spare bit set
+  pub gathered : (n : ℕ) → not (eqb (fold gather 0 (range_with_len 0 n)) 0) ≡ any_spare part n
+  gathered n = ap not (gathered_below n)
 
-    module _ (near : at ≤ 4294967296) where
-      pub none_inside : (at % 8 ≡ 0 → ⊥) → 0 ≡ commands_within l at n
-      unfolding commands_within
-      none_inside h = simp (le-leb _ _ few, le-leb _ _ near, ne_eqb _ _ h)
-
-      module _ (first : at % 8 ≡ 0) where
-        pub as_many : commands_within l at n ≡ least n ((l - at / 8) / 2)
-        unfolding commands_within
-        as_many = simp (le-leb _ _ few, le-leb _ _ near, eq-eqb _ _ first)
-
-        pub none_left : l < at / 8 → 0 ≡ commands_within l at n
-        none_left h = sym (as_many ∙ rw nothing (none n))
-          where
-            nothing : (l - at / 8) / 2 ≡ 0
-            nothing = omega arith
-
-            none : (m : ℕ) → least m 0 ≡ 0
-            none m = elim (dec_lt 0 m) [ yes g ↦ rw (lt-ltb 0 m g) | no f ↦ rw (le-ltb 0 m (omega (arith, f))) (omega (arith, f)) ]
-
-        pub whole_ones : (l - at / 8) / 2 < n → (l - at / 8) / 2 ≡ commands_within l at n
-        whole_ones h = sym (as_many ∙ rw (lt-ltb _ _ h))
-
-        pub all_of_them : n ≤ (l - at / 8) / 2 → n ≡ commands_within l at n
-        all_of_them h = sym (as_many ∙ rw (le-ltb _ _ h))
-
--- ---- what is found at a position, put together
-module _ (s : List ℕ) (at n : ℕ) {w : ℕ} (is : w ≡ commands_within (length s) at n) where
-  pub spares_of : {t : _} → t ≡ any_spare (drop (at / 8) s) w → ◌≡◌ {A = Spares} (record { set = t; next = at + 16 * w }) (spares_at s at n)
-  spares_of e = rw (e, is)
+-- ---- how many commands are read at a byte's first bit
+pub as_many : (l at n : ℕ) → n ≤ 4096 → at ≤ 4294967296 → at % 8 ≡ 0 → commands_within l at n ≡ least n ((l - at / 8) / 2)
+unfolding commands_within
+as_many l at n few near first = simp (le-leb _ _ few, le-leb _ _ near, eq-eqb _ _ first)

@@ -1,22 +1,11 @@
--- What is read at a position of a sheet, and the position after it.
-use Rattle.std.specs.Prelude.{ℕ, ◌+◌, ◌-◌, ◌*◌, ◌/◌, ◌%◌, List, eqb, leb, ltb, length, drop}
+-- How much is read at a position of a sheet, the spare bits of a command, and the whole bytes around a position.
+use Rattle.std.specs.Prelude.{ℕ, ◌+◌, ◌-◌, ◌/◌, ◌%◌, eqb, leb, ltb}
 use Rattle.rules.specs.Tables.{pick}
-use Rattle.rules.specs.Sheet.{field, homes_from, by_kind, any_spare}
-use Rattle.reader.specs.declared.field.Number.{Number}
-use Rattle.reader.specs.declared.row.Row.{Row}
-use Rattle.reader.specs.declared.command.Spares.{Spares}
+use Rattle.rules.specs.Sheet.{by_kind}
 
 -- how much of n is read at bit `at`: at most 16 bits or 16 homes, and none past bit 2 ^ 32, where no sheet reaches
 unfoldable pub within : ℕ → ℕ → ℕ
 within at n = pick (leb n 16) (pick (leb at 4294967296) n 0) 0
-
--- a field, and the bit after it
-abbrev pub field_at : List ℕ → ℕ → ℕ → Number
-field_at s at n = record { value = field s at (within at n); next = at + within at n }
-
--- a row of homes, three bits for each, and the bit after them
-abbrev pub row_from : List ℕ → ℕ → ℕ → Row
-row_from s at n = record { homes = homes_from s at (within at n); next = at + 3 * within at n }
 
 -- the smaller of two numbers
 abbrev pub least : ℕ → ℕ → ℕ
@@ -30,10 +19,6 @@ commands_within l at n = pick (leb n 4096) (pick (leb at 4294967296) (pick (eqb 
 -- the spare bits among the 16 of a command
 abbrev pub spare_in : ℕ → ℕ
 spare_in c = by_kind (c / 16384) (c % 64) (c % 64) (c % 256)
-
--- whether a spare bit is set in one of the commands that are read, and the bit after them
-abbrev pub spares_at : List ℕ → ℕ → ℕ → Spares
-spares_at s at n = record { set = any_spare (drop (at / 8) s) (commands_within (length s) at n); next = at + 16 * commands_within (length s) at n }
 
 -- the bits left to a byte's end, and the first byte that starts at or after a bit
 abbrev pub left_at : ℕ → ℕ

@@ -1,14 +1,7 @@
 // The commands of a sheet: 16 bits for each, from a whole byte on.
 ghost use Rattle.std.specs.Prelude.{◌≡◌, ◌+◌, ◌-◌, ◌*◌, ◌/◌, ◌%◌, ◌<◌, ◌≤◌, ◌^◌, length, drop};
 ghost use Rattle.rules.specs.Sheet.{field, any_spare};
-ghost use Rattle.reader.specs.Place.{spare_in, commands_within, spares_at};
-
-// Whether a spare bit is set in one of the commands that were read, and the bit after them.
-#[derive(Clone, Copy)]
-pub struct Spares {
-    pub set: bool,
-    pub next: usize,
-}
+ghost use Rattle.reader.specs.Place.{spare_in, commands_within};
 
 // The 16 bits from byte i on, which the sheet has whole: what `field` finds there, without a look at the sheet's end for each byte.
 fn sixteen(s: &[u8], i: usize) -> usize
@@ -30,51 +23,20 @@ fn spare(command: usize) -> u8
 
 // A spare bit is set in one of n commands, which the sheet has whole from byte `first` on. All of them are gathered before the answer, in one
 // byte: then the compiler can take many commands at a time.
-fn any_spare(s: &[u8], first: usize, n: usize) -> bool
+pub fn any_spare(s: &[u8], first: usize, n: usize) -> bool
     requires { 2 * n ≤ length s.now - first }
     ensures { result ≡ any_spare (drop first s.now) n }
 {
-    let mut set: u8 = 0;
-    let mut k: usize = 0;
-    while k < n {
-        set = set | spare(sixteen(s, first + 2 * k));
-        k += 1;
-    }
+    let set = (0..n).fold(0, |set, k| set | spare(sixteen(s, first + 2 * k)));
     set != 0
 }
 
 // How many of n commands are read at a bit of a sheet of so many bytes.
-fn within(bytes: usize, at: usize, n: usize) -> usize
+pub fn within(bytes: usize, at: usize, n: usize) -> usize
     ensures { (result ≡ commands_within bytes at n) × (at + 16 * result < 2 ^ 64) × (2 * result ≤ bytes - at / 8) }
 {
-    if 4096 < n {
+    if 4096 < n || 4294967296 < at || at % 8 != 0 {
         return 0;
     }
-    if 4294967296 < at {
-        return 0;
-    }
-    if at % 8 != 0 {
-        return 0;
-    }
-    let first = at / 8;
-    if bytes < first {
-        return 0;
-    }
-    let whole = (bytes - first) / 2;
-    if whole < n {
-        return whole;
-    }
-    n
-}
-
-// At most n commands at a position, and the position after them.
-pub fn spares_at(s: &[u8], at: usize, n: usize) -> Spares
-    ensures { result ≡ spares_at s.now at n }
-{
-    let w = within(s.len(), at, n);
-    let set = any_spare(s, at / 8, w);
-    Spares {
-        set: set,
-        next: at + 16 * w,
-    }
+    n.min(bytes.saturating_sub(at / 8) / 2)
 }

@@ -2,23 +2,12 @@
 ghost use Rattle.std.specs.Prelude.{◌≡◌, ◌+◌, ◌*◌, ◌<◌, ◌≤◌, ◌^◌, get_or};
 ghost use Rattle.rules.specs.Sheet as Rules;
 ghost use Rattle.reader.specs.Place as Place;
-ghost use Rattle.reader.specs.Place.{field_at};
-
-// The number that a field stands for, and the bit after the field.
-#[derive(Clone, Copy)]
-pub struct Number {
-    pub value: usize,
-    pub next: usize,
-}
 
 // Byte i of a sheet.
 fn byte(s: &[u8], i: usize) -> u8
     ensures { result ≡ get_or s.now i 0 }
 {
-    if i < s.len() {
-        return s[i];
-    }
-    0
+    s.get(i).copied().unwrap_or(0)
 }
 
 // The number that n bits from bit `at` on stand for: they lie in the three bytes from that bit's byte on.
@@ -38,23 +27,5 @@ pub fn field(s: &[u8], at: usize, n: usize) -> usize
 pub fn within(at: usize, n: usize) -> usize
     ensures { (result ≡ Place.within at n) × (result ≤ 16) × (at + 3 * result < 2 ^ 64) }
 {
-    if 16 < n {
-        return 0;
-    }
-    if 4294967296 < at {
-        return 0;
-    }
-    n
-}
-
-// A field of n bits at a position, and the position after it.
-pub fn field_at(s: &[u8], at: usize, n: usize) -> Number
-    ensures { result ≡ field_at s.now at n }
-{
-    let w = within(at, n);
-    let value = field(s, at, w);
-    Number {
-        value: value,
-        next: at + w,
-    }
+    if 16 < n || 4294967296 < at { 0 } else { n }
 }

@@ -1,6 +1,6 @@
 // A sheet is read through one reading place, which moves on by the bits that are read: the sheet, and the bit that is read next.
-// The work is done on the sheet and a position, in the modules below; the functions over the reading place are thin.
-// Above them stand functions with plain parameters: the whole pass over a sheet, and what follows a bit.
+// What stands at a position of a sheet is found in the modules below; the reading place asks them, and moves on.
+// Above it stand functions with plain parameters: the whole pass over a sheet, and what follows a bit.
 #![tactic(auto)]
 
 ghost use Rattle.std.specs.Prelude.{◌≡◌, ◌+◌, ◌*◌, ◌/◌, length, drop};
@@ -35,52 +35,57 @@ pub struct Found {
     pub commands_spare: bool,
 }
 
-// The reading place at the sheet's first bit.
-pub fn new<'a>(s: &'a [u8]) -> Reader<'a>
-    ensures { (result.sheet ≡ s.entry) × (result.at ≡ 0) }
-{
-    Reader { sheet: s, at: 0 }
-}
+impl<'a> Reader<'a> {
+    // The reading place at the sheet's first bit.
+    pub fn new(sheet: &'a [u8]) -> Reader<'a>
+        ensures { (result.sheet ≡ sheet.entry) × (result.at ≡ 0) }
+    {
+        Reader { sheet, at: 0 }
+    }
 
-// Reads n bits, and moves on.
-pub fn read<'s, 'a>(r: &'s mut Reader<'a>, n: usize) -> usize
-    ensures { (result ≡ field r.old.sheet.now r.old.at (within r.old.at n))
-        × (r.new.sheet ≡ r.old.sheet)
-        × (r.new.at ≡ r.old.at + within r.old.at n) }
-{
-    let f = field::field_at(r.sheet, r.at, n);
-    r.at = f.next;
-    f.value
-}
+    // Reads n bits, and moves on.
+    pub fn read(&mut self, n: usize) -> usize
+        ensures { (result ≡ field self.old.sheet.now self.old.at (within self.old.at n))
+            × (self.new.sheet ≡ self.old.sheet)
+            × (self.new.at ≡ self.old.at + within self.old.at n) }
+    {
+        let bits = field::within(self.at, n);
+        let value = field::field(self.sheet, self.at, bits);
+        self.at += bits;
+        value
+    }
 
-// Reads n homes, and moves on.
-pub fn homes<'s, 'a>(r: &'s mut Reader<'a>, n: usize) -> [u8; 16]
-    ensures { (result ≡ homes_from r.old.sheet.now r.old.at (within r.old.at n))
-        × (r.new.sheet ≡ r.old.sheet)
-        × (r.new.at ≡ r.old.at + 3 * within r.old.at n) }
-{
-    let f = row::row_at(r.sheet, r.at, n);
-    r.at = f.next;
-    f.homes
-}
+    // Reads n homes, three bits for each, and moves on.
+    pub fn homes(&mut self, n: usize) -> [u8; 16]
+        ensures { (result ≡ homes_from self.old.sheet.now self.old.at (within self.old.at n))
+            × (self.new.sheet ≡ self.old.sheet)
+            × (self.new.at ≡ self.old.at + 3 * within self.old.at n) }
+    {
+        let count = field::within(self.at, n);
+        let row = row::homes(self.sheet, self.at, count);
+        self.at += 3 * count;
+        row
+    }
 
-// Reads n commands, or as many as the sheet still has whole, and moves on. Tells whether a spare bit is set in one of them. Commands lie in
-// whole bytes: at a bit inside a byte none is read.
-pub fn commands<'s, 'a>(r: &'s mut Reader<'a>, n: usize) -> bool
-    ensures { (result ≡ any_spare (drop (r.old.at / 8) r.old.sheet.now) (commands_within (length r.old.sheet.now) r.old.at n))
-        × (r.new.sheet ≡ r.old.sheet)
-        × (r.new.at ≡ r.old.at + 16 * commands_within (length r.old.sheet.now) r.old.at n) }
-{
-    let f = command::spares_at(r.sheet, r.at, n);
-    r.at = f.next;
-    f.set
-}
+    // Reads n commands, or as many as the sheet still has whole, and moves on. Tells whether a spare bit is set in one of them. Commands lie
+    // in whole bytes: at a bit inside a byte none is read.
+    pub fn commands(&mut self, n: usize) -> bool
+        ensures { (result ≡ any_spare (drop (self.old.at / 8) self.old.sheet.now) (commands_within (length self.old.sheet.now) self.old.at n))
+            × (self.new.sheet ≡ self.old.sheet)
+            × (self.new.at ≡ self.old.at + 16 * commands_within (length self.old.sheet.now) self.old.at n) }
+    {
+        let count = command::within(self.sheet.len(), self.at, n);
+        let spare = command::any_spare(self.sheet, self.at / 8, count);
+        self.at += 16 * count;
+        spare
+    }
 
-// What is left, from the next whole byte on.
-pub fn rest<'a>(r: Reader<'a>) -> &'a [u8]
-    ensures { result.now ≡ drop (byte_up r.entry.at) r.entry.sheet.now }
-{
-    whole::tail_at(r.sheet, r.at)
+    // What is left, from the next whole byte on.
+    pub fn rest(self) -> &'a [u8]
+        ensures { result.now ≡ drop (byte_up self.entry.at) self.entry.sheet.now }
+    {
+        whole::tail_at(self.sheet, self.at)
+    }
 }
 
 // The whole pass, through one reading place: the header, the homes of the processes and of the objects, the spare bits to the byte's end,
@@ -89,30 +94,30 @@ pub fn rest<'a>(r: Reader<'a>) -> &'a [u8]
 pub fn read_sheet(s: &[u8]) -> Found
     ensures { result ≡ found_in s.now }
 {
-    let mut r = new(s);
-    let header = read(&mut r, 16);
+    let mut r = Reader::new(s);
+    let header = r.read(16);
     let form = header / 512 / 8;
     let nodes = (header / 512) % 8 + 1;
     let processes = (header / 32) % 16 + 1;
     let objects = (header / 2) % 16 + 1;
     let spare = header % 2;
-    let process_home = homes(&mut r, processes);
-    let object_home = homes(&mut r, objects);
+    let process_home = r.homes(processes);
+    let object_home = r.homes(objects);
     let left = whole::left(r.at);
-    let homes_spare = read(&mut r, left);
+    let homes_spare = r.read(left);
     let start = r.at / 8;
-    let commands_spare = commands(&mut r, 4096);
+    let commands_spare = r.commands(4096);
     Found {
-        form: form,
-        nodes: nodes,
-        processes: processes,
-        objects: objects,
-        spare: spare,
-        process_home: process_home,
-        object_home: object_home,
-        homes_spare: homes_spare,
-        start: start,
-        commands_spare: commands_spare,
+        form,
+        nodes,
+        processes,
+        objects,
+        spare,
+        process_home,
+        object_home,
+        homes_spare,
+        start,
+        commands_spare,
     }
 }
 
@@ -120,5 +125,5 @@ pub fn read_sheet(s: &[u8]) -> Found
 pub fn rest_from<'a>(s: &'a [u8], at: usize) -> &'a [u8]
     ensures { result.now ≡ drop (byte_up at) s.now }
 {
-    rest(Reader { sheet: s, at: at })
+    Reader { sheet: s, at }.rest()
 }

@@ -14,10 +14,5 @@ pub fn tail_at(s: &[u8], at: usize) -> &[u8]
     ensures { result.now ≡ drop (byte_up at) s.now }
 {
     let from = at / 8 + (at % 8 + 7) / 8;
-    if from <= s.len() {
-        &s[from..]
-    } else {
-        let n = s.len();
-        &s[n..]
-    }
+    &s[from.min(s.len())..]
 }

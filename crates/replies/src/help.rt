@@ -1,11 +1,11 @@
 // The help, on one screen, and how to begin.
-use words::text;
+use std::io::{Result, Write};
+use text::Page;
 
-pub fn tell(out: &mut [u8; 65536], at: usize) -> usize {
-    text(
+pub fn tell(out: &mut Page) -> Result<()> {
+    writeln!(
         out,
-        at,
-        b"Beside each command stands its short form.
+        "Beside each command stands its short form.
 open N P O         o   a board of N nodes (1 to 8), P processes (1 to 16) and
                        O objects (1 to 16); pK and oK live on node K modulo N
 open N P O HOMES   o   the same; then the home node of each process and object
@@ -37,7 +37,6 @@ Numbers are decimal, from 0: request 0 1 x is p0 asking for o1, exclusive, and
 so is request p0 o1 x. What stands after # on a line is a comment.
 Load is messages in flight, plus processes standing in lines, plus requests in
 flight (so a request counts twice). It never passes 64: a request is refused
-where it is above 62, and a release where it is above 63 (answer 10).
-",
+where it is above 62, and a release where it is above 63 (answer 10)."
     )
 }

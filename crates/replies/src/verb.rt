@@ -1,63 +1,30 @@
-// The names of the commands, and the form of each.
+// The form of each command, which is told where a line is not understood.
+use std::io::{Result, Write};
+use text::Page;
 use typed::Verb;
-use words::{text, word};
 
-// The place of a verb in the tables of names and of forms. Those that take no word come last.
-fn place(verb: Verb) -> u8 {
+// The form of a command.
+fn form(verb: Verb) -> &'static str {
     match verb {
-        Verb::Open => 0,
-        Verb::Request => 1,
-        Verb::Release => 2,
-        Verb::Deliver => 3,
-        Verb::Drain => 4,
-        Verb::Follow => 5,
-        Verb::Show => 6,
-        Verb::Messages => 7,
-        Verb::Waits => 8,
-        Verb::Rings => 9,
-        Verb::Undo => 10,
-        Verb::Help => 11,
-        Verb::Quit => 12,
-        _ => 13,
+        Verb::Open => {
+            "open NODES PROCESSES OBJECTS, as in open 3 3 2, and after them
+  no home, or the home node of each process and then of each object"
+        }
+        Verb::Request => {
+            "request PROCESS OBJECT MODE, as in request 0 1 exclusive
+  (or request p0 o1 x; a mode is shared or s or 0, exclusive or x or 1)"
+        }
+        Verb::Release => "release PROCESS OBJECT, as in release 0 1 or release p0 o1",
+        Verb::Deliver => "deliver MESSAGE, as in deliver 0",
+        Verb::Drain => "drain, or drain BUDGET, as in drain 5 (at most 5 deliveries)",
+        Verb::Follow => "follow, or follow BUDGET, as in follow 5 (at most 5 deliveries)",
+        Verb::Show => "show, or show NODE, as in show 2",
+        Verb::Messages => "messages, or messages NODE, as in messages 2",
+        Verb::Waits => "waits, or waits NODE, as in waits 2",
+        _ => "the command alone",
     }
 }
 
-pub fn name(out: &mut [u8; 65536], at: usize, verb: Verb) -> usize {
-    word(
-        out,
-        at,
-        b"open|request|release|deliver|drain|follow|show|messages|waits|rings|undo|help|quit|the command|",
-        place(verb),
-    )
-}
-
-// The form of a command. The last row is for each that takes no word.
-fn form(out: &mut [u8; 65536], at: usize, place: u8) -> usize {
-    word(
-        out,
-        at,
-        b"open NODES PROCESSES OBJECTS, as in open 3 3 2, and after them
-  no home, or the home node of each process and then of each object
-|request PROCESS OBJECT MODE, as in request 0 1 exclusive
-  (or request p0 o1 x; a mode is shared or s or 0, exclusive or x or 1)
-|release PROCESS OBJECT, as in release 0 1 or release p0 o1
-|deliver MESSAGE, as in deliver 0
-|drain, or drain BUDGET, as in drain 5 (at most 5 deliveries)
-|follow, or follow BUDGET, as in follow 5 (at most 5 deliveries)
-|show, or show NODE, as in show 2
-|messages, or messages NODE, as in messages 2
-|waits, or waits NODE, as in waits 2
-|the command alone
-|",
-        place,
-    )
-}
-
-pub fn expected(out: &mut [u8; 65536], at: usize, verb: Verb) -> usize {
-    let begun = text(out, at, b"  expected ");
-    let n = place(verb);
-    if n < 9 {
-        return form(out, begun, n);
-    }
-    form(out, begun, 9)
+pub fn expected(out: &mut Page, verb: Verb) -> Result<()> {
+    writeln!(out, "  expected {}", form(verb))
 }

@@ -11,7 +11,6 @@ use Rattle.rules.specs.Sheet.{Run}
 use Rattle.sheet.specs.Kept.{kept_of}
 use Rattle.sheet.proofs.Longer.{kept_runs}
 use Rattle.printed.specs.Lines.{printed, printed_sheet}
-use Rattle.text.proofs.Text.{wrote_start}
 use Rattle.input.specs.Input.{Taken}
 use Rattle.input.proofs.Pieces.{pieces_taken}
 use Rattle.report.specs.Whole.{WholePrinted}
@@ -35,5 +34,4 @@ kept_printed w buffer n t =
     ∙ ap (λ (r : Run). printed r.ran r.room) (kept_runs w (replicate 4096 0))
 
 pub whole_printed : WholePrinted
-whole_printed w empty buffer n size r old out end long wrote fits =
-    wrote_start old _ out end wrote (omega (arith, long)) ∙ kept_printed w buffer n (pieces_taken empty w buffer n size r)
+whole_printed w empty buffer n size r page e = e ∙ kept_printed w buffer n (pieces_taken empty w buffer n size r)

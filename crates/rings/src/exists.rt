@@ -1,96 +1,62 @@
 // The rings that exist now, one to a line: a recorded one once, with all who recorded it, and one that is not recorded through each process
 // that is in no ring told before. A recorded ring stays a ring of waits, so all of these exist.
-ghost use Rattle.std.specs.Prelude.{◌<◌};
-
 use crate::{named, turns};
 use rules::{Board, Kind, Ring};
+use std::io::{Result, Write};
+use text::Page;
 use values::bits::{has, lowest, wide};
-use words::{clause, members, text};
+use words::{Members, numbers, on_or_below};
 
-fn begun(out: &mut [u8; 65536], at: usize, r: Ring) -> usize {
-    let headed = text(out, at, b"  a ring exists: ");
-    named(out, headed, r)
+// A ring, and what is said of it behind.
+fn line<F: Fn(&mut Page, u64) -> Result<()>>(
+    out: &mut Page,
+    r: &Ring,
+    set: u64,
+    said: F,
+) -> Result<()>
+    requires { F.IsAlwaysCallable said }
+{
+    write!(out, "  a ring exists: ")?;
+    named(out, r)?;
+    write!(out, ";")?;
+    on_or_below(out, 100, set, said)?;
+    writeln!(out)
 }
 
-fn recorded_by(out: &mut [u8; 65536], at: usize, recorders: u64, last: usize) -> usize {
-    let headed = text(out, at, b"recorded by ");
-    members(out, headed, b"p#", recorders, 0, last)
-}
-
-fn recorded_line(out: &mut [u8; 65536], at: usize, r: Ring, recorders: u64) -> usize {
-    let told = begun(out, at, r);
-    let whole = recorded_by(out, told, recorders, 1000);
-    let parted = clause(out, told, whole);
-    let named = recorded_by(out, parted, recorders, 99);
-    text(out, named, b"\n")
+fn recorded_by(out: &mut Page, recorders: u64) -> Result<()> {
+    write!(out, "recorded by ")?;
+    numbers(out, 99, 'p', Members::of(recorders))
 }
 
 // Some of a ring may have recorded another, and then their places are filled.
-fn not_by(out: &mut [u8; 65536], at: usize, filled: u64, last: usize) -> usize {
+fn not_by(out: &mut Page, filled: u64) -> Result<()> {
     if filled == 0 {
-        return text(out, at, b"not recorded yet");
+        return write!(out, "not recorded yet");
     }
-    let headed = text(out, at, b"not recorded, but ");
-    let named = members(out, headed, b"p#", filled, 0, last);
-    text(out, named, b" of it recorded another")
+    write!(out, "not recorded, but ")?;
+    numbers(out, 77, 'p', Members::of(filled))?;
+    write!(out, " of it recorded another")
 }
 
-fn unrecorded_line(out: &mut [u8; 65536], at: usize, r: Ring, filled: u64) -> usize {
-    let told = begun(out, at, r);
-    let whole = not_by(out, told, filled, 1000);
-    let parted = clause(out, told, whole);
-    let named = not_by(out, parted, filled, 77);
-    text(out, named, b"\n")
-}
-
-// The ring in a place, where the place is the first of those that have it.
-fn in_place(out: &mut [u8; 65536], at: usize, rings: [Ring; 16], i: usize) -> usize {
-    if 16 <= i {
-        return at;
+// Each ring in the first of the places that have it.
+pub fn recorded(out: &mut Page, b: &Board) -> Result<()> {
+    for (place, r) in b.rings.iter().enumerate() {
+        let recorders = turns::recorders(&b.rings, r);
+        if lowest(recorders) == place {
+            line(out, r, recorders, recorded_by)?;
+        }
     }
-    let r = rings[i];
-    let recorders = turns::recorders(rings, r);
-    if lowest(recorders) != i {
-        return at;
-    }
-    recorded_line(out, at, r, recorders)
-}
-
-pub fn recorded(out: &mut [u8; 65536], at: usize, b: Board) -> usize {
-    let rings = b.rings;
-    let mut end = at;
-    let mut i: usize = 0;
-    while i < 16 {
-        end = in_place(out, end, rings, i);
-        i += 1;
-    }
-    end
-}
-
-// A list is in flight under a number.
-fn is_list(b: Board, n: u8) -> bool
-    requires { n < 64 }
-{
-    let f = b.flights[wide(n)];
-    let kind = f.kind;
-    match kind {
-        Kind::ListToHome | Kind::ListToObject(_) => has(b.occupied, n),
-        _ => false,
-    }
+    Ok(())
 }
 
 // Those whose lists are in flight.
-fn starters(b: Board) -> u64 {
-    let mut set: u64 = 0;
-    let mut n: u8 = 0;
-    while n < 64 {
-        if !is_list(b, n) {
-            n += 1;
-            continue;
+fn starters(b: &Board) -> u64 {
+    let mut set = 0;
+    for n in Members::of(b.occupied) {
+        let n = wide(n);
+        if let Kind::ListToHome | Kind::ListToObject(_) = b.flights[n].kind {
+            set = turns::marked(set, b.lists[n].who[0]);
         }
-        let l = b.lists[wide(n)];
-        set = turns::marked(set, l.who[0]);
-        n += 1;
     }
     set
 }
@@ -98,30 +64,25 @@ fn starters(b: Board) -> u64 {
 // The filled places of a ring that is not recorded, where no list may record it. All who are in it stand in lines, so each has started a
 // list, which is in flight or has ended. One in flight may record the ring yet, where its starter's place is empty.
 fn without_list(ring: u64, seeking: u64, filled: u64) -> u64 {
-    if (seeking & ring) != 0 {
-        return 0;
+    if seeking & ring == 0 {
+        filled & ring
+    } else {
+        0
     }
-    filled & ring
 }
 
-pub fn not_recorded(out: &mut [u8; 65536], at: usize, b: Board) -> usize {
-    let rings = b.rings;
-    let filled = turns::filled(rings);
+pub fn not_recorded(out: &mut Page, b: &Board) -> Result<()> {
+    let filled = turns::filled(&b.rings);
     let seeking = starters(b) & !filled;
-    let sets = search::arcs(b);
-    let mut told = turns::in_recorded(rings);
-    let mut end = at;
-    let mut p: u8 = 0;
-    while p < 16 {
+    let sets = search::arcs(*b);
+    let mut told = turns::in_recorded(&b.rings);
+    for p in 0..16 {
         let r = search::along(sets, p);
-        if has(told, p) | (r.count == 0) {
-            p += 1;
-            continue;
+        if !has(told, p) && r.count != 0 {
+            let ring = turns::members(&r);
+            line(out, &r, without_list(ring, seeking, filled), not_by)?;
+            told |= ring;
         }
-        let ring = turns::members(r);
-        end = unrecorded_line(out, end, r, without_list(ring, seeking, filled));
-        told = told | ring;
-        p += 1;
     }
-    end
+    Ok(())
 }

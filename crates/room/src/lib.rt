@@ -22,7 +22,7 @@ pub fn step_lent(b: Board, c: Command) -> Stepped
     let mut room = b;
     let answer = step_in(&mut room, c);
     Stepped {
-        answer: answer,
+        answer,
         board: room,
     }
 }

@@ -4,6 +4,8 @@ pub mod Bits
 pub mod Book
 pub mod Lists
 pub mod Load
+pub mod Numbers
 pub mod Sheet
 pub mod Cases
 pub mod Determined
+pub mod Conversions

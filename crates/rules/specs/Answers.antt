@@ -1,5 +1,5 @@
 -- Answers: the number of each, and how a list of tests decides.
-use Rattle.std.specs.Prelude.{ℕ, Bool, List, [], ◌∷◌, eqb}
+use Rattle.std.specs.Prelude.{ℕ, Bool, List, [], ◌∷◌, eqb, get_or}
 use Rattle.rules.specs.declared.Answer.{Answer}
 use Rattle.rules.specs.declared.Answer.TheVariants.{Done, CountOutside, HomeOutside, NoProcess, NoObject, NoMode, ProcessWaits, HasReleased, HoldsAlready, HoldsNot, LoadTooHigh, NoMessage, SheetCut, WrongForm, SpareBit, OddByte, TooManyCommands, OutOfShape, RoomTooShort}
 use Rattle.rules.specs.Tables.{pick}
@@ -34,3 +34,12 @@ first_of (t ∷ ts) = pick t.0 t.1 (first_of ts)
 -- "0 is done."
 abbrev pub done : Answer → Bool
 done a = eqb (number a) 0
+
+-- the answers in the table's order, without the last
+abbrev pub answers : List Answer
+answers = Done ∷ CountOutside ∷ HomeOutside ∷ NoProcess ∷ NoObject ∷ NoMode ∷ ProcessWaits ∷ HasReleased ∷ HoldsAlready ∷ HoldsNot
+    ∷ LoadTooHigh ∷ NoMessage ∷ SheetCut ∷ WrongForm ∷ SpareBit ∷ OddByte ∷ TooManyCommands ∷ OutOfShape ∷ []
+
+-- the answer that a number stands for
+unfoldable pub answer_of : ℕ → Answer
+answer_of n = get_or answers n RoomTooShort

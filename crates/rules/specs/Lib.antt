@@ -2,6 +2,8 @@
 pub mod Tables
 pub mod Bits
 pub mod Answers
+pub mod Letters
+pub mod Words
 pub mod Book
 pub mod Home
 pub mod Lists

@@ -15,12 +15,9 @@ mod walk;
 pub fn arcs(b: Board) -> [u64; 16]
     ensures { result ≡ Waiting.arcs b }
 {
-    let mut sets: [u64; 16] = [0; 16];
-    let mut p: u8 = 0;
-    while p < 16 {
-        let at = wide(p);
-        sets[at] = waits::waited(b, p);
-        p += 1;
+    let mut sets = [0; 16];
+    for p in 0..16u8 {
+        sets[wide(p)] = waits::waited(b, p);
     }
     sets
 }
@@ -34,11 +31,10 @@ pub fn along(sets: [u64; 16], p: u8) -> Ring
         return walk::no_ring();
     }
     let comers = walk::comers(sets, p);
-    let n = walk::round(comers, p);
-    if 16 < n {
-        return walk::no_ring();
+    match walk::round(comers, p) {
+        Some(n) => walk::way(sets, comers, p, n),
+        None => walk::no_ring(),
     }
-    walk::way(sets, comers, p, n)
 }
 
 // The same on a board. Whoever asks for several processes works out the arcs once, and then calls `along`.

@@ -13,22 +13,11 @@ fn at_place(o: Object, p: u8, m: Mode, k: u8) -> u64
     requires { (p < 16) × (k < 16) }
     ensures { SetOf (λ q. among q (waited_for o p m k)) result }
 {
-    let line = o.line;
     let mut set = objects::rivals(o, p, m);
-    let mut j: u8 = 0;
-    while j < k {
-        let at = wide(j);
-        let q = line[at];
-        if 16 <= q {
-            j += 1;
-            continue;
+    for (j, q) in o.line[..wide(k)].iter().enumerate() {
+        if *q < 16 && objects::bars(*q, o.line_exclusive, p, m, j as u8) {
+            set = values::bits::with(set, *q);
         }
-        if !objects::bars(q, o.line_exclusive, p, m, j) {
-            j += 1;
-            continue;
-        }
-        set = values::bits::with(set, q);
-        j += 1;
     }
     set
 }
@@ -38,22 +27,12 @@ fn in_line(o: Object, p: u8) -> u64
     requires { p < 16 }
     ensures { SetOf (waits_in o p) result }
 {
-    let n = o.line_count;
-    let line = o.line;
-    let mut set: u64 = 0;
-    let mut k: u8 = 0;
-    while k < 16 {
-        let at = wide(k);
-        if n <= k {
-            k += 1;
-            continue;
+    let mut set = 0;
+    for (at, q) in o.line.iter().enumerate() {
+        let k = at as u8;
+        if k < o.line_count && *q == p {
+            set |= at_place(o, p, objects::mode_at(o, k), k);
         }
-        if line[at] != p {
-            k += 1;
-            continue;
-        }
-        set = set | at_place(o, p, objects::mode_at(o, k), k);
-        k += 1;
     }
     set
 }
@@ -63,12 +42,9 @@ pub fn waited(b: Board, p: u8) -> u64
     requires { p < 16 }
     ensures { SetOf (waits_for b p) result }
 {
-    let mut set: u64 = 0;
-    let mut o: usize = 0;
-    while o < 16 {
-        let object = b.objects[o];
-        set = set | in_line(object, p);
-        o += 1;
+    let mut set = 0;
+    for object in &b.objects {
+        set |= in_line(*object, p);
     }
     set
 }

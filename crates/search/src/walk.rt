@@ -1,5 +1,5 @@
 // Ways along waits, given as a set for each process: who comes to p in so many waits, in how many p comes round, and the way.
-ghost use Rattle.std.specs.Prelude.{◌≡◌, true, ◌&&◌, suc, ◌<◌, ◌≤◌, get_or};
+ghost use Rattle.std.specs.Prelude.{◌≡◌, true, ◌&&◌, suc, ◌<◌, ◌≤◌, get_or, MatchOption};
 ghost use Rattle.rules.specs.Bits.{taken};
 ghost use Rattle.rules.specs.Lists.{ring_of, no_ring};
 ghost use Rattle.search.specs.Numbers.{first, any, set_of};
@@ -24,12 +24,9 @@ fn waiters(sets: [u64; 16], set: u64) -> u64
     requires { set < 65536 }
     ensures { result ≡ set_of 16 (λ x. any 16 (λ q. arc sets x q && taken set q)) }
 {
-    let mut found: u64 = 0;
-    let mut x: u8 = 0;
-    while x < 16 {
-        let at = wide(x);
-        found = values::bits::marked(found, x, sets[at] & set != 0);
-        x += 1;
+    let mut found = 0;
+    for (x, waited) in sets.iter().enumerate() {
+        found = values::bits::marked(found, x as u8, *waited & set != 0);
     }
     found
 }
@@ -39,30 +36,26 @@ pub fn comers(sets: [u64; 16], p: u8) -> [u64; 17]
     requires { p < 16 }
     ensures { result ≡ Ways.comers (arc sets) p }
 {
-    let mut all: [u64; 17] = [0; 17];
+    let mut all = [0; 17];
     let mut set = values::bits::with(0, p);
-    let mut k: usize = 0;
-    while k < 17 {
-        all[k] = set;
+    for after in &mut all {
+        *after = set;
         set = waiters(sets, set);
-        k += 1;
     }
     all
 }
 
-// In how many waits, one at least, p comes round first; 17 where it does not come round in 16.
-pub fn round(comers: [u64; 17], p: u8) -> usize
+// In how many waits, one at least, p comes round first; none where it does not come round in 16.
+pub fn round(comers: [u64; 17], p: u8) -> Option<usize>
     requires { p < 16 }
-    ensures { result ≡ suc (first 16 (λ k. taken (get_or comers (suc k) 0) p)) }
+    ensures { MatchOption result (suc (first 16 (λ k. taken (get_or comers (suc k) 0) p)) ≡ 17) (λ n. (n ≡ suc (first 16 (λ k. taken (get_or comers (suc k) 0) p))) × (n ≤ 16)) }
 {
-    let mut k: usize = 1;
-    while k < 17 {
+    for k in 1..17 {
         if values::bits::has(comers[k], p) {
-            return k;
+            return Some(k);
         }
-        k += 1;
     }
-    17
+    None
 }
 
 // The way of n waits from p round to p, each going on to the lowest number that comes to p in as many waits as are left.
@@ -72,19 +65,14 @@ pub fn way(sets: [u64; 16], comers: [u64; 17], p: u8, n: usize) -> Ring
 {
     let mut processes: [u8; 16] = [0; 16];
     let mut x = p;
-    let mut i: usize = 0;
-    let mut left = n;
-    while 0 < left {
+    for i in 0..n {
         processes[i] = x;
-        left -= 1;
         let waited = sets[wide(x)];
-        let coming = comers[left];
+        let coming = comers[n - 1 - i];
         x = values::bits::lowest(waited & coming) as u8;
-        i += 1;
     }
-    let count = n as u8;
     Ring {
-        processes: processes,
-        count: count,
+        processes,
+        count: n as u8,
     }
 }

@@ -1,5 +1,5 @@
 -- The contract of what a line does to the desk determines its result.
-use mathlib.Core.Path.{refl}
+use Rattle.std.proofs.Common.{refl}
 use seplogic.Ra.Ura.{Ura}
 use base.Logic.{SProp}
 use prog.Memory.{Memory}

@@ -1,3 +1,2 @@
--- Laws of what is heard of a line, which the proof of its function cites.
-pub mod Hearing
+-- The law of what a line does to the desk.
 pub mod Determined

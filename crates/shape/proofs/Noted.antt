@@ -1,6 +1,6 @@
 -- Noting those who stand finds out whether one stands twice: `different` and `standing` of the rules, by one set. Assumes nothing.
-use mathlib.Core.Path.{◌≡◌, refl, sym, ap, ◌∙◌}
-use mathlib.Core.Bool.{Bool, true, false, not, ◌&&◌}
+use mathlib.Core.Path.{◌≡◌, refl, sym, ap, subst, ◌∙◌}
+use mathlib.Core.Bool.{Bool, true, false, ◌&&◌}
 use mathlib.Core.List.{List}
 use Prim.Native.Nat.{ℕ, zero, suc, ◌+◌, ◌≤◌, ◌<◌}
 use native.Mathlib.Nat.{add-zero, zero-add}
@@ -8,8 +8,10 @@ use native.Mathlib.Decide.{ℕ_discrete}
 use native.Mathlib.Omega.{arith}
 use native.Mathlib.Numerals.{add-one}
 use lib.Dec.{eqb, ltb, leb}
-use lib.ListN.{length, get_or}
-use borrow.Author.Tests.{eq-eqb, ne_eqb, eqb-true, lt-ltb, le-ltb, ltb-true, ltb-false, le-leb, leb-true, not-true}
+use lib.ListN.{length, get_or, take}
+use Rattle.std.proofs.lemmas.List.{get_or-take}
+use Rattle.std.specs.Prelude.{Option, Some, None, is_some, IfSome, option_and_then}
+use borrow.Author.Tests.{eq-eqb, ne_eqb, eqb-true, lt-ltb, lt-leb, ltb-true, ltb-false, le-leb, leb-true}
 use Rattle.rules.specs.declared.Mode.{Mode}
 use Rattle.rules.specs.declared.Kind.{Kind}
 use Rattle.rules.specs.declared.Kind.TheVariants.{Free, Request, Grant, Release, ListToHome, ListToObject}
@@ -23,102 +25,112 @@ use Rattle.rules.specs.Book.{who_at}
 use Rattle.rules.specs.Board.{no_flight, no_object, kind_at, list_at, in_flight, is_message}
 use Rattle.rules.specs.Shape.{different, request_of, standing, row_fits, object_fits, message_fits, kind_fits, count_fits, counts_fit, holds_fit, same, up_to}
 use Rattle.rules.proofs.Bits.{taken_with, taken_zero}
-use Rattle.rules.proofs.Tables.{same_test, both, both_left, both_right, place_first, all_at, all_from, all_ext, count_zero, count_one, by_test, not_passed}
-use Rattle.shape.specs.declared.stand.Standing.{Standing}
-use Rattle.shape.specs.Stand.{RowFits, AskerFits, kind_in, book_in, AskersFit, LinesFit, nobody, noted, noted_row, noted_kind, noted_requests, noted_lines}
+use Rattle.rules.proofs.Tables.{true_not_false, all_fail, same_test, both_left, both_right, place_first, all_at, all_from, all_ext, count_zero, count_one, by_test, not_passed}
+use Rattle.shape.specs.Stand.{RowFits, AskerFits, kind_in, book_in, AskersFit, LinesFit, noted, each_noted, noted_row, noted_kind, noted_requests, noted_lines}
 use Rattle.sums.proofs.Sums.{read_at}
-use Rattle.shape.proofs.Tests.{row_below, up_to_le, marked_none}
+use Rattle.shape.proofs.Tests.{row_below, up_to_le}
 
 -- ---- what has been noted, of processes that stand so many times each
-pub record Knows (s : Standing) (times : ℕ → ℕ) : Type 0 where
-  pub who : (p : ℕ) → p < 16 → taken s.who p ≡ ltb 0 (times p)
-  pub once : eqb s.twice 0 ≡ all 16 (λ p. leb (times p) 1)
+pub record Knows (noted : Option ℕ) (times : ℕ → ℕ) : Type 0 where
+  pub who : IfSome noted (λ s. (p : ℕ) → p < 16 → taken s p ≡ ltb 0 (times p))
+  pub once : is_some noted ≡ all 16 (λ p. leb (times p) 1)
 
 -- the times, written another way
-again : (s : Standing) (times more : ℕ → ℕ) → ((p : ℕ) → times p ≡ more p) → Knows s times → Knows s more
-again s times more e k = record {
-  who = λ p h. k.who p h ∙ ap (ltb 0) (e p);
-  once = k.once ∙ all_ext 16 _ _ (λ p h. ap (λ (n : ℕ). leb n 1) (e p));
-}
+again : (s : Option ℕ) (times more : ℕ → ℕ) → ((p : ℕ) → times p ≡ more p) → Knows s times → Knows s more
+again s times more e k = subst (Knows s) (λ i p. e p i) k
 
-none_more : (s : Standing) (times : ℕ → ℕ) → Knows s times → Knows s (λ p. times p + 0)
+none_more : (s : Option ℕ) (times : ℕ → ℕ) → Knows s times → Knows s (λ p. times p + 0)
 none_more s times k = again s _ _ (λ p. sym (add-zero (times p))) k
 
-knows_nobody : Knows nobody (λ p. 0)
+knows_nobody : Knows (Some 0) (λ p. 0)
 unfolding all
 knows_nobody = record { who = λ p h. taken_zero p; once = refl }
 
 -- ---- one more
-module _ (s : Standing) (times : ℕ → ℕ) (q : ℕ) (h : q < 16) (k : Knows s times) where
+module _ (s : ℕ) (times : ℕ → ℕ) (q : ℕ) (h : q < 16) (k : Knows (Some s) times) where
   one_more : ℕ → ℕ
   one_more p = times p + pick (eqb q p) 1 0
 
-  noted_who : (p : ℕ) → p < 16 → taken (with_bit s.who q) p ≡ ltb 0 (one_more p)
+  noted_who : (p : ℕ) → p < 16 → taken (with_bit s q) p ≡ ltb 0 (one_more p)
   unfolding one_more
-  noted_who p l = taken_with s.who q p ∙ elim (ℕ_discrete p q) [
+  noted_who p l = taken_with s q p ∙ elim (ℕ_discrete p q) [
     | yes z ↦ rw (eq-eqb p q z, eq-eqb q p (sym z)) (sym (lt-ltb 0 (times p + 1) (omega arith)))
     | no n ↦ rw (ne_eqb p q n, ne_eqb q p (λ z. n (sym z)), add-zero) (k.who p l)
   ]
 
-  still_once : eqb s.twice 0 && not (taken s.who q) ≡ true → all 16 (λ p. leb (one_more p) 1) ≡ true
+  still_once : taken s q ≡ false → all 16 (λ p. leb (one_more p) 1) ≡ true
   unfolding one_more
-  still_once e = all_from 16 _ (λ p l. place p l (leb-true (times p) 1 (all_at 16 _ (sym k.once ∙ both_left _ _ e) p l)))
+  still_once e = all_from 16 _ (λ p l. place p l (leb-true (times p) 1 (all_at 16 _ (sym k.once) p l)))
     where
       place : (p : ℕ) → p < 16 → times p ≤ 1 → leb (times p + pick (eqb q p) 1 0) 1 ≡ true
       place p l m = elim (ℕ_discrete q p) [
-        | yes z ↦ rw (eq-eqb q p z) (le-leb (times p + 1) 1 (omega (arith, ap times z, ltb-false 0 (times q) (sym (k.who q h) ∙ not-true (taken s.who q) (both_right (eqb s.twice 0) (not (taken s.who q)) e)))))
+        | yes z ↦ rw (eq-eqb q p z) (le-leb (times p + 1) 1 (omega (arith, ap times z, ltb-false 0 (times q) (sym (k.who q h) ∙ e))))
         | no n ↦ rw (ne_eqb q p n, add-zero) (le-leb (times p) 1 m)
       ]
 
-  was_once : all 16 (λ p. leb (one_more p) 1) ≡ true → eqb s.twice 0 && not (taken s.who q) ≡ true
+  twice : taken s q ≡ true → all 16 (λ p. leb (one_more p) 1) ≡ false
   unfolding one_more
-  was_once e =
-      let low : (p : ℕ) → p < 16 → times p + pick (eqb q p) 1 0 ≤ 1 = λ p l. leb-true _ 1 (all_at 16 _ e p l) in
-      let a : eqb s.twice 0 ≡ true = k.once ∙ all_from 16 _ (λ p l. le-leb (times p) 1 (omega (arith, low p l))) in
-      let m : times q + 1 ≤ 1 = rw (eq-eqb q q refl) at (low q h) in
-      let b : taken s.who q ≡ false = k.who q h ∙ le-ltb 0 (times q) (omega arith) in
-      both _ _ a (ap not b)
+  twice e = all_fail 16 _ q h (rw (eq-eqb q q refl) (lt-leb (times q + 1) 1 (omega (arith, ltb-true 0 (times q) (sym (k.who q h) ∙ e)))))
 
   knows_noted : Knows (noted s q) (λ p. times p + pick (eqb q p) 1 0)
   unfolding one_more
-  knows_noted = record { who = noted_who; once = marked_none s.twice s.who q ∙ same_test _ _ still_once was_once }
+  knows_noted = by_test (taken s q) (λ e. rw e (record { who = tt; once = sym (twice e) })) (λ e. rw e (record { who = noted_who; once = sym (still_once e) }))
+
+-- ---- what is noted after what was
+chained : (s : Option ℕ) (note : ℕ → Option ℕ) (times more : ℕ → ℕ) → ((p : ℕ) → times p ≤ more p) → ((t : ℕ) → Knows (Some t) times → Knows (note t) more)
+    → Knows s times → Knows (option_and_then note s) more
+chained (Some t) note times more m g k = g t k
+chained None note times more m g k = record {
+  who = tt;
+  once = sym (not_passed _ (λ e. true_not_false (sym (k.once ∙ all_from 16 _ (λ p l. le-leb (times p) 1 (omega (arith, m p, leb-true (more p) 1 (all_at 16 _ e p l))))))));
+}
+
+-- at one place after another, where so many stand before each
+each_knows : (note : ℕ → ℕ → Option ℕ) (s : ℕ) (times : ℕ → ℕ → ℕ) (n : ℕ) → ((k p : ℕ) → times k p ≤ times (suc k) p)
+    → ((k : ℕ) → k < n → (t : ℕ) → Knows (Some t) (times k) → Knows (note k t) (times (suc k))) → Knows (Some s) (times 0) → Knows (each_noted note s n) (times n)
+unfolding each_noted
+each_knows note s times zero m g k = k
+each_knows note s times (suc n) m g k = chained _ _ _ _ (m n) (g n (omega arith)) (each_knows note s times n m (λ j l. g j (omega arith)) k)
 
 -- ---- a row, the requests, the lines
-knows_row : (s : Standing) (times : ℕ → ℕ) (row : List ℕ) (n : ℕ) → ((k : ℕ) → k < n → get_or row k 0 < 16) → Knows s times
+knows_row : (s : ℕ) (times : ℕ → ℕ) (row : List ℕ) (n : ℕ) → ((k : ℕ) → k < n → get_or row k 0 < 16) → Knows (Some s) times
     → Knows (noted_row s row n) (λ p. times p + count_of n (λ k. eqb (get_or row k 0) p))
-unfolding noted_row sum
-knows_row s times row zero h k = none_more s times k
-knows_row s times row (suc n) h k = again _ _ _ (λ p. omega arith) (knows_noted _ _ (get_or row n 0) (h n (omega arith)) (knows_row s times row n (λ j l. h j (omega arith)) k))
+unfolding sum
+knows_row s times row n h k =
+    each_knows _ s (λ j p. times p + count_of j (λ i. eqb (get_or row i 0) p)) n (λ j p. omega arith)
+    (λ j l t known. again _ _ _ (λ p. omega arith) (knows_noted t _ (get_or row j 0) (h j l) known)) (none_more _ _ k)
 
-knows_kind : (s : Standing) (times : ℕ → ℕ) (kind : Kind) → AskerFits kind → Knows s times → Knows (noted_kind s kind) (λ p. times p + pick (request_of p kind) 1 0)
-knows_kind s times Free h k = none_more s times k
+knows_kind : (s : ℕ) (times : ℕ → ℕ) (kind : Kind) → AskerFits kind → Knows (Some s) times → Knows (noted_kind s kind) (λ p. times p + pick (request_of p kind) 1 0)
+knows_kind s times Free h k = none_more _ times k
 knows_kind s times (Request q o m) h k = knows_noted s times q h k
-knows_kind s times (Grant q o m) h k = none_more s times k
-knows_kind s times (Release q o) h k = none_more s times k
-knows_kind s times ListToHome h k = none_more s times k
-knows_kind s times (ListToObject o) h k = none_more s times k
+knows_kind s times (Grant q o m) h k = none_more _ times k
+knows_kind s times (Release q o) h k = none_more _ times k
+knows_kind s times ListToHome h k = none_more _ times k
+knows_kind s times (ListToObject o) h k = none_more _ times k
 
 knows_requests : (flights : List Flight) (n : ℕ) → ((k : ℕ) → k < n → AskerFits (kind_in flights k)) → Knows (noted_requests flights n) (λ p. count_of n (λ k. request_of p (kind_in flights k)))
-unfolding noted_requests sum
-knows_requests flights zero h = knows_nobody
-knows_requests flights (suc n) h = knows_kind _ _ (kind_in flights n) (h n (omega arith)) (knows_requests flights n (λ k l. h k (omega arith)))
+unfolding sum
+knows_requests flights n h =
+    each_knows _ 0 (λ j p. count_of j (λ i. request_of p (kind_in flights i))) n (λ j p. omega arith)
+    (λ j l t known. knows_kind t _ (kind_in flights j) (h j l) known) knows_nobody
 
 -- how often p stands in the line of object o
 in_line : List Object → ℕ → ℕ → ℕ
 in_line books p o = count_of (book_in books o).line_count (λ k. eqb (who_at (book_in books o) k) p)
 
-knows_lines : (s : Standing) (times : ℕ → ℕ) (books : List Object) (n : ℕ) → ((o : ℕ) → o < n → RowFits (book_in books o).line (book_in books o).line_count) → Knows s times
+knows_lines : (s : ℕ) (times : ℕ → ℕ) (books : List Object) (n : ℕ) → ((o : ℕ) → o < n → RowFits (book_in books o).line (book_in books o).line_count) → Knows (Some s) times
     → Knows (noted_lines s books n) (λ p. times p + sum n (in_line books p))
-unfolding noted_lines sum in_line
-knows_lines s times books zero h k = none_more s times k
-knows_lines s times books (suc n) h k =
-    again _ _ _ (λ p. omega arith) (knows_row _ _ _ _ (h n (omega arith)).below (knows_lines s times books n (λ o l. h o (omega arith)) k))
+unfolding sum in_line
+knows_lines s times books n h k =
+    each_knows _ s (λ j p. times p + sum j (in_line books p)) n (λ j p. omega arith)
+    (λ j l t known. again _ _ _ (λ p. omega arith) (knows_row t _ _ _ (h j l).below known)) (none_more _ _ k)
 
 -- "no process stands twice over all lines and request messages taken together"
 pub once_each : (b : Board) → AskersFit b.flights → LinesFit b.objects
-    → eqb (noted_lines (noted_requests b.flights 64) b.objects 16).twice 0 ≡ all 16 (λ p. leb (standing b p) 1)
+    → is_some (option_and_then (λ s. noted_lines s b.objects 16) (noted_requests b.flights 64)) ≡ all 16 (λ p. leb (standing b p) 1)
 unfolding standing in_line
-once_each b h g = (knows_lines _ _ b.objects 16 g (knows_requests b.flights 64 h)).once
+once_each b h g =
+    (chained (noted_requests b.flights 64) (λ s. noted_lines s b.objects 16) _ _ (λ p. omega arith) (λ s k. knows_lines s _ b.objects 16 g k) (knows_requests b.flights 64 h)).once
 
 -- ---- different numbers
 -- one place at most passes where any two that pass are the same
@@ -157,8 +169,8 @@ module _ (row : List ℕ) (n : ℕ) (h : (k : ℕ) → k < n → get_or row k 0 
           let z : j ≡ k = count_one n (λ m. eqb (get_or row m 0) p) one j k (omega arith) l (eq-eqb (get_or row j 0) p x) (eq-eqb p p refl) in
           omega arith
 
-  pub different_noted : eqb (noted_row nobody row n).twice 0 ≡ different row n
-  different_noted = (knows_row nobody (λ p. 0) row n h knows_nobody).once ∙ all_ext 16 _ _ (λ p l. ap (λ (m : ℕ). leb m 1) (zero-add (count_of n (λ k. eqb (get_or row k 0) p)))) ∙ same_test _ _ back there
+  pub different_noted : is_some (noted_row 0 row n) ≡ different row n
+  different_noted = (knows_row 0 (λ p. 0) row n h knows_nobody).once ∙ all_ext 16 _ _ (λ p l. ap (λ (m : ℕ). leb m 1) (zero-add (count_of n (λ k. eqb (get_or row k 0) p)))) ∙ same_test _ _ back there
 
 -- ---- what the tests before have shown
 middle : (a b c d : Bool) → a && (b && (c && d)) ≡ true → (b ≡ true) × (c ≡ true)
@@ -206,20 +218,28 @@ pub line_at : (books : List Object) (o : ℕ) (d : Object) → o < length books 
     → RowFits (get_or books o d).line (get_or books o d).line_count
 line_at books o d h r = rw (read_at books o d no_object h) r
 
--- ---- one more of each, as a loop notes them
-pub row_more : (s now next : Standing) (row : List ℕ) (k : ℕ) → now ≡ noted_row s row k → next ≡ noted now (get_or row k 0) → next ≡ noted_row s row (k + 1)
-unfolding noted_row
-row_more s now next row k e f = f ∙ ap (λ (t : Standing). noted t (get_or row k 0)) e ∙ rw add-one
+-- ---- one more place, as a loop notes it
+module _ (note : ℕ → ℕ → Option ℕ) (s k t : ℕ) (e : each_noted note s k ≡ Some t) where
+  pub each_more : (u : ℕ) → note k t ≡ Some u → each_noted note s (k + 1) ≡ Some u
+  unfolding each_noted
+  each_more u f = rw (add-one, e) f
 
-pub requests_more : (flights : List Flight) (n : ℕ) (now next : Standing) (d : Flight) → n < length flights → now ≡ noted_requests flights n
-    → next ≡ noted_kind now (get_or flights n d).kind → next ≡ noted_requests flights (n + 1)
-unfolding noted_requests
-requests_more flights n now next d h e f =
-    f ∙ ap (λ (x : Flight). noted_kind now x.kind) (read_at flights n d no_flight h) ∙ ap (λ (t : Standing). noted_kind t (kind_in flights n)) e ∙ rw add-one
+  -- once there is none, there is none
+  pub each_stops : (n : ℕ) → k < n → note k t ≡ None → each_noted note s n ≡ None
+  unfolding each_noted
+  each_stops zero h f = absurd (omega arith)
+  each_stops (suc n) h f = elim (ℕ_discrete k n) [
+    | yes z ↦ rw (← z, e) f
+    | no m ↦ rw (each_stops n (omega arith) f)
+  ]
 
-pub lines_more : (s : Standing) (books : List Object) (o : ℕ) (now next : Standing) (d : Object) → o < length books → now ≡ noted_lines s books o
-    → next ≡ noted_row now (get_or books o d).line (get_or books o d).line_count → next ≡ noted_lines s books (o + 1)
-unfolding noted_lines
-lines_more s books o now next d h e f =
-    f ∙ ap (λ (x : Object). noted_row now x.line x.line_count) (read_at books o d no_object h)
-    ∙ ap (λ (t : Standing). noted_row t (book_in books o).line (book_in books o).line_count) e ∙ rw add-one
+-- what stands at a place, as it is read
+pub place_read : (row : List ℕ) (n k d t : ℕ) (r : Option ℕ) → k < length (take n row) → k < n → r ≡ noted t (get_or (take n row) k d) → noted t (get_or row k 0) ≡ r
+place_read row n k d t r h l e = sym (e ∙ ap (noted t) (read_at (take n row) k d 0 h ∙ get_or-take n row k 0 l))
+
+pub request_read : (flights : List Flight) (k t : ℕ) (d : Flight) (r : Option ℕ) → k < length flights → r ≡ noted_kind t (get_or flights k d).kind → noted_kind t (kind_in flights k) ≡ r
+request_read flights k t d r h e = sym (e ∙ ap (λ (x : Flight). noted_kind t x.kind) (read_at flights k d no_flight h))
+
+pub line_read : (books : List Object) (o t : ℕ) (d : Object) (r : Option ℕ) → o < length books → r ≡ noted_row t (get_or books o d).line (get_or books o d).line_count
+    → noted_row t (book_in books o).line (book_in books o).line_count ≡ r
+line_read books o t d r h e = sym (e ∙ ap (λ (x : Object). noted_row t x.line x.line_count) (read_at books o d no_object h))

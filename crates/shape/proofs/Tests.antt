@@ -2,32 +2,24 @@
 use mathlib.Core.Path.{◌≡◌, refl, sym, ap, ◌∙◌}
 use mathlib.Core.Bool.{Bool, true, false, not, ◌&&◌}
 use mathlib.Core.List.{List}
-use Prim.Native.Nat.{ℕ, zero, suc, ◌+◌, ◌*◌, ◌/◌, ◌%◌, ◌^◌, ◌≤◌, ◌<◌}
+use Prim.Native.Nat.{ℕ, zero, suc, ◌+◌, ◌*◌, ◌/◌, ◌^◌, ◌≤◌, ◌<◌}
 use native.Mathlib.Omega.{arith}
-use native.Mathlib.Decide.{ℕ_discrete}
 use native.Mathlib.Numerals.{add-one}
 use native.Mathlib.Nat.{div-lt_iff_lt-mul, one-mul}
 use lib.Bits.{bit_and, bit_or, and_le_l}
 use lib.Pow.{pow_pos, pow_mono}
 use lib.Dec.{eqb, ltb, leb-suc-suc, leb-suc-zero, eqb-suc-zero}
 use lib.ListN.{length, get_or}
-use borrow.Author.Tests.{eqb-true, eq-eqb, ne_eqb, lt-ltb, ltb-true, not-true, not-false}
-use Rattle.rules.specs.declared.Entries.{Entries}
-use Rattle.rules.specs.declared.Flight.{Flight}
-use Rattle.rules.specs.Tables.{pick, either, all}
-use Rattle.rules.specs.Bits.{digit, taken}
-use Rattle.rules.specs.Shape.{up_to, row_fits, same, kind_fits}
-use Rattle.rules.specs.Lists.{no_entries}
-use Rattle.rules.specs.Board.{no_flight, is_message}
+use borrow.Author.Tests.{eqb-true, eq-eqb, lt-ltb, ltb-true, not-true, not-false}
+use Rattle.rules.specs.Tables.{pick, all}
+use Rattle.rules.specs.Bits.{taken}
+use Rattle.rules.specs.Shape.{up_to, row_fits}
 use Rattle.sums.proofs.Sums.{read_at}
-use Rattle.shape.specs.Stand.{RowFits, kind_in}
+use Rattle.shape.specs.Stand.{RowFits}
 use Rattle.rules.proofs.Bits.{taken_and, taken_zero, empty_from, or_none}
 use Rattle.rules.proofs.Tables.{same_test, both, all_at, all_from, all_fail}
 
 -- ---- tests one after another, each of which may end with false
-pub stopped : (t rest : Bool) → t ≡ false → false ≡ t && rest
-stopped t rest e = rw e
-
 pub onward : (t rest x : Bool) → t ≡ true → x ≡ rest → x ≡ t && rest
 onward t rest x e h = rw e h
 
@@ -36,15 +28,6 @@ failed r t e f = sym e ∙ not-true r f
 
 pub passed : (r t : Bool) → r ≡ t → not r ≡ false → t ≡ true
 passed r t e f = sym e ∙ not-false r f
-
-pub refuses : (r t rest : Bool) → r ≡ t → not r ≡ true → false ≡ t && rest
-refuses r t rest e f = stopped t rest (failed r t e f)
-
-pub allows : (r t rest x : Bool) → r ≡ t → not r ≡ false → x ≡ rest → x ≡ t && rest
-allows r t rest x e f h = onward t rest x (passed r t e f) h
-
-pub filled : (t rest x : Bool) → t ≡ false → x ≡ rest → x ≡ either t rest
-filled t rest x e h = rw e h
 
 -- ---- sets
 pub set_below : (n c : ℕ) → c ≤ 16 → eqb (n / 2 ^ c) 0 ≡ true → n < 2 ^ 16
@@ -71,14 +54,6 @@ up_to_le k c n h = go (ltb k c)
     go false = omega arith
 
 -- ---- a row, with what is wrong gathered
--- a digit marked beside what was gathered
-pub marked_none : (a n k : ℕ) → eqb (bit_or a (digit n k)) 0 ≡ eqb a 0 && not (taken n k)
-unfolding taken digit
-marked_none a n k = or_none a (n / 2 ^ k % 2) ∙ ap (◌&&◌ (eqb a 0)) (elim (ℕ_discrete (n / 2 ^ k % 2) 0) [
-  | yes z ↦ rw (eq-eqb _ _ z, ne_eqb (n / 2 ^ k % 2) 1 (λ e. omega (arith, e, z)))
-  | no m ↦ rw (ne_eqb _ _ m, eq-eqb (n / 2 ^ k % 2) 1 (omega (arith, m)))
-])
-
 zero_below_one : (x : ℕ) → ltb x 1 ≡ eqb x 0
 zero_below_one zero = refl
 zero_below_one (suc x) = rw (leb-suc-suc (suc x) 0, leb-suc-zero, eqb-suc-zero)
@@ -92,22 +67,6 @@ unmarked : (t : Bool) → eqb (pick t 0 1) 0 ≡ t
 unmarked true = refl
 unmarked false = refl
 
--- one more place of two rows gathered
-pub two_zero : (any k : ℕ) (f g : ℕ → ℕ) → eqb any 0 ≡ all k (λ j. eqb (f j) 0) && all k (λ j. eqb (g j) 0)
-    → eqb (bit_or (bit_or any (f k)) (g k)) 0 ≡ all (k + 1) (λ j. eqb (f j) 0) && all (k + 1) (λ j. eqb (g j) 0)
-unfolding all
-two_zero any k f g e = or_none (bit_or any (f k)) (g k) ∙ rw (or_none any (f k), e, add-one) (swapped (all k (λ j. eqb (f j) 0)) (all k (λ j. eqb (g j) 0)) (eqb (f k) 0) (eqb (g k) 0))
-  where
-    swapped : (a b c d : Bool) → ((a && b) && c) && d ≡ (a && c) && (b && d)
-    swapped true true c d = refl
-    swapped true false true d = refl
-    swapped true false false d = refl
-    swapped false b c d = refl
-
-pub zero_rows : (row other : List ℕ) → all 16 (λ j. eqb (get_or row j 0) 0) && all 16 (λ j. eqb (get_or other j 0) 0) ≡ row_fits row 0 0 && row_fits other 0 0
-unfolding row_fits all
-zero_rows row other = refl
-
 -- one more place gathered
 pub gathered : (wrong mark x limit c : ℕ) (done t : Bool) → eqb wrong 0 ≡ done → mark ≡ pick (ltb x limit) 0 1 → limit ≡ pick t c 1
     → eqb (bit_or wrong mark) 0 ≡ done && pick t (ltb x c) (eqb x 0)
@@ -117,6 +76,20 @@ gathered wrong mark x limit c done t d m e = or_none wrong mark ∙ rw (d, m, un
 pub all_next : (k : ℕ) (t : ℕ → Bool) → all (k + 1) t ≡ all k t && t k
 unfolding all
 all_next k t = rw add-one
+
+-- one more place of a row of zeros gathered, after what was done before it
+pub zero_more : (done : Bool) (any k d : ℕ) (row : List ℕ) → k < length row → eqb any 0 ≡ done && all k (λ j. eqb (get_or row j 0) 0)
+    → eqb (bit_or any (get_or row k d)) 0 ≡ done && all (k + 1) (λ j. eqb (get_or row j 0) 0)
+zero_more done any k d row h e =
+    or_none any (get_or row k d) ∙ rw (e, read_at row k d 0 h, all_next) (regrouped done (all k (λ j. eqb (get_or row j 0) 0)) (eqb (get_or row k 0) 0))
+  where
+    regrouped : (a b c : Bool) → (a && b) && c ≡ a && (b && c)
+    regrouped true b c = refl
+    regrouped false b c = refl
+
+pub zero_rows : (row other : List ℕ) → all 16 (λ j. eqb (get_or row j 0) 0) && all 16 (λ j. eqb (get_or other j 0) 0) ≡ row_fits row 0 0 && row_fits other 0 0
+unfolding row_fits all
+zero_rows row other = refl
 
 -- the test of one record, as a loop over them takes it
 pub ends_table : (n k : ℕ) (t : ℕ → Bool) (r : Bool) → k < n → r ≡ t k → not r ≡ true → false ≡ all n t
@@ -137,9 +110,3 @@ row_below row n c e h l = record { count = h; below = below }
 pub read_fits : {A : Type 0} (f : A → ℕ → Bool) (l : List A) (k : ℕ) (d e : A) (r : Bool) (m end c n : ℕ) → k < length l
     → r ≡ f (get_or l k d) m → m ≡ up_to k end n → end ≡ c → r ≡ f (get_or l k e) (up_to k c n)
 read_fits f l k d e r m end c n h t u w = t ∙ ap (λ x. f x m) (read_at l k d e h) ∙ ap (f (get_or l k e)) (u ∙ ap (λ (j : ℕ). up_to k j n) w)
-
--- a message as it is read
-pub read_message : (flights : List Flight) (lists : List Entries) (occupied pc oc n : ℕ) (d : Flight) (e : Entries) → n < length flights → n < length lists
-    → same (taken occupied n) (is_message (get_or flights n d).kind) && kind_fits (get_or flights n d).kind (get_or lists n e) pc oc
-    ≡ same (taken occupied n) (is_message (kind_in flights n)) && kind_fits (kind_in flights n) (get_or lists n no_entries) pc oc
-read_message flights lists occupied pc oc n d e h l = rw (read_at flights n d no_flight h, read_at lists n e no_entries l)

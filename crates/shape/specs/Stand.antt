@@ -1,13 +1,12 @@
 -- Those who stand somewhere, noted one after another; and what tables must have shown before their processes can be noted.
-use Rattle.std.specs.Prelude.{ℕ, zero, suc, ◌≤◌, ◌<◌, List, get_or}
-use Rattle.std.specs.Int.Bits.{bit_or}
+use Rattle.std.specs.Prelude.{ℕ, zero, suc, ◌≤◌, ◌<◌, List, get_or, Option, Some, None, option_and_then}
 use Rattle.rules.specs.declared.Kind.{Kind}
 use Rattle.rules.specs.declared.Kind.TheVariants.{Free, Request, Grant, Release, ListToHome, ListToObject}
 use Rattle.rules.specs.declared.Flight.{Flight}
 use Rattle.rules.specs.declared.Object.{Object}
-use Rattle.rules.specs.Bits.{digit, with_bit}
+use Rattle.rules.specs.Tables.{pick}
+use Rattle.rules.specs.Bits.{taken, with_bit}
 use Rattle.rules.specs.Board.{no_flight, no_object}
-use Rattle.shape.specs.declared.stand.Standing.{Standing}
 
 -- the first n of a row are processes
 pub record RowFits (row : List ℕ) (n : ℕ) : Type 0 where
@@ -37,32 +36,30 @@ AskersFit flights = (n : ℕ) → n < 64 → AskerFits (kind_in flights n)
 abbrev pub LinesFit : List Object → Type 0
 LinesFit books = (o : ℕ) → o < 16 → RowFits (book_in books o).line (book_in books o).line_count
 
--- ---- noting
-abbrev pub nobody : Standing
-nobody = record { who = 0; twice = 0 }
+-- ---- noting: those who stand are a set, and there is none once one stands twice
+-- p stands too
+abbrev pub noted : ℕ → ℕ → Option ℕ
+noted s p = pick (taken s p) None (Some (with_bit s p))
 
--- p stands: for the second time, if it is in the set
-abbrev pub noted : Standing → ℕ → Standing
-noted s p = record { who = with_bit s.who p; twice = bit_or s.twice (digit s.who p) }
+-- what stands at the places 0, 1, .. n - 1, noted one after another
+unfoldable pub each_noted : (ℕ → ℕ → Option ℕ) → ℕ → ℕ → Option ℕ
+each_noted note s zero = Some s
+each_noted note s (suc k) = option_and_then (note k) (each_noted note s k)
 
--- the first places of a row, of the requests, of the lines
-unfoldable pub noted_row : Standing → List ℕ → ℕ → Standing
-noted_row s row zero = s
-noted_row s row (suc k) = noted (noted_row s row k) (get_or row k 0)
+abbrev pub noted_row : ℕ → List ℕ → ℕ → Option ℕ
+noted_row s row n = each_noted (λ k t. noted t (get_or row k 0)) s n
 
 -- of messages only a request has its process standing
-abbrev pub noted_kind : Standing → Kind → Standing
-noted_kind s Free = s
+abbrev pub noted_kind : ℕ → Kind → Option ℕ
+noted_kind s Free = Some s
 noted_kind s (Request p o m) = noted s p
-noted_kind s (Grant p o m) = s
-noted_kind s (Release p o) = s
-noted_kind s ListToHome = s
-noted_kind s (ListToObject o) = s
+noted_kind s (Grant p o m) = Some s
+noted_kind s (Release p o) = Some s
+noted_kind s ListToHome = Some s
+noted_kind s (ListToObject o) = Some s
 
-unfoldable pub noted_requests : List Flight → ℕ → Standing
-noted_requests flights zero = nobody
-noted_requests flights (suc n) = noted_kind (noted_requests flights n) (kind_in flights n)
+abbrev pub noted_requests : List Flight → ℕ → Option ℕ
+noted_requests flights n = each_noted (λ k t. noted_kind t (kind_in flights k)) 0 n
 
-unfoldable pub noted_lines : Standing → List Object → ℕ → Standing
-noted_lines s books zero = s
-noted_lines s books (suc o) = noted_row (noted_lines s books o) (book_in books o).line (book_in books o).line_count
+abbrev pub noted_lines : ℕ → List Object → ℕ → Option ℕ
+noted_lines s books n = each_noted (λ o t. noted_row t (book_in books o).line (book_in books o).line_count) s n

@@ -18,17 +18,12 @@ fn set_fits(set: u64, c: u8) -> bool
 }
 
 // Two sets of numbers below c that have none in common: one mode for each hold.
+#[tactic(auto, unfolding(rules::specs::Shape::holds_fit))]
 fn holds_fit(shared: u64, exclusive: u64, c: u8) -> bool
     requires { c ≤ 16 }
     ensures { result ≡ holds_fit shared exclusive c }
 {
-    if !set_fits(shared, c) {
-        return false;
-    }
-    if !set_fits(exclusive, c) {
-        return false;
-    }
-    shared & exclusive == 0
+    set_fits(shared, c) && set_fits(exclusive, c) && shared & exclusive == 0
 }
 
 // "counts, homes .. are in range"
@@ -36,19 +31,11 @@ pub fn counts_fit(nodes: u8, pc: u8, oc: u8, process_home: [u8; 16], object_home
     ensures { result ≡ count_fits nodes 8 && (count_fits pc 16 && (count_fits oc 16
         && (row_fits process_home pc nodes && row_fits object_home oc nodes))) }
 {
-    if !count_fits(nodes, 8) {
-        return false;
-    }
-    if !count_fits(pc, 16) {
-        return false;
-    }
-    if !count_fits(oc, 16) {
-        return false;
-    }
-    if !row_fits(process_home, pc, nodes) {
-        return false;
-    }
-    row_fits(object_home, oc, nodes)
+    count_fits(nodes, 8)
+        && count_fits(pc, 16)
+        && count_fits(oc, 16)
+        && row_fits(process_home, pc, nodes)
+        && row_fits(object_home, oc, nodes)
 }
 
 // The count for record k of c records; zero past them.
@@ -67,66 +54,49 @@ fn wait_fits(wait: Wait, oc: u8) -> bool
     }
 }
 
+#[tactic(auto, unfolding(rules::specs::Shape::process_fits))]
 fn process_fits(p: Process, oc: u8) -> bool
     requires { oc ≤ 16 }
     ensures { result ≡ process_fits p oc }
 {
-    if !holds_fit(p.shared, p.exclusive, oc) {
-        return false;
-    }
-    let wait = p.wait;
-    if !wait_fits(wait, oc) {
-        return false;
-    }
-    if p.released {
-        return 0 < oc;
-    }
-    true
+    holds_fit(p.shared, p.exclusive, oc) && wait_fits(p.wait, oc) && (!p.released || 0 < oc)
 }
 
+// By `for`: with the library's `all` a board's shape took 113 million instructions in place of 102, in 20,000 calls.
 pub fn processes_fit(books: [Process; 16], pc: u8, oc: u8) -> bool
     requires { oc ≤ 16 }
     ensures { result ≡ all 16 (λ p. process_fits (get_or books p no_process) (up_to p pc oc)) }
 {
     let end = wide(pc);
-    let mut p: usize = 0;
-    while p < 16 {
-        if !process_fits(books[p], up_to(p, end, oc)) {
+    for (p, book) in books.iter().enumerate() {
+        if !process_fits(*book, up_to(p, end, oc)) {
             return false;
         }
-        p += 1;
     }
     true
 }
 
+#[tactic(auto, unfolding(rules::specs::Shape::object_fits))]
 fn object_fits(o: Object, pc: u8) -> bool
     requires { pc ≤ 16 }
     ensures { result ≡ object_fits o pc }
 {
-    if !holds_fit(o.shared, o.exclusive, pc) {
-        return false;
-    }
-    if 16 < o.line_count {
-        return false;
-    }
-    let line = o.line;
-    if !row_fits(line, o.line_count, pc) {
-        return false;
-    }
-    set_fits(o.line_exclusive, o.line_count)
+    holds_fit(o.shared, o.exclusive, pc)
+        && o.line_count <= 16
+        && row_fits(o.line, o.line_count, pc)
+        && set_fits(o.line_exclusive, o.line_count)
 }
 
+// By `for`: with the library's `all` a board's shape took 113 million instructions in place of 102, in 20,000 calls.
 pub fn objects_fit(books: [Object; 16], pc: u8, oc: u8) -> bool
     requires { pc ≤ 16 }
     ensures { result ≡ all 16 (λ o. object_fits (get_or books o no_object) (up_to o oc pc)) }
 {
     let end = wide(oc);
-    let mut o: usize = 0;
-    while o < 16 {
-        if !object_fits(books[o], up_to(o, end, pc)) {
+    for (o, book) in books.iter().enumerate() {
+        if !object_fits(*book, up_to(o, end, pc)) {
             return false;
         }
-        o += 1;
     }
     true
 }

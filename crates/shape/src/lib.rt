@@ -14,47 +14,29 @@ mod ring;
 mod row;
 mod stand;
 
-// The load of a board in shape, which is at most 64; 65 for a board that is not in shape. A call on a board needs both, and asks once.
-pub fn load_in_shape(b: Board) -> usize
+// The load of a board in shape, which is at most 64; none for a board that is not in shape. A call on a board needs both, and asks once.
+pub fn load_in_shape(b: Board) -> Option<usize>
     ensures { result ≡ load_in_shape b }
 {
     let pc = b.process_count;
     let oc = b.object_count;
-    let process_home = b.process_home;
-    let object_home = b.object_home;
-    if !book::counts_fit(b.nodes, pc, oc, process_home, object_home) {
-        return 65;
-    }
-    let processes = b.processes;
-    if !book::processes_fit(processes, pc, oc) {
-        return 65;
-    }
-    let objects = b.objects;
-    if !book::objects_fit(objects, pc, oc) {
-        return 65;
-    }
-    let flights = b.flights;
-    let lists = b.lists;
-    if !message::messages_fit(flights, lists, b.occupied, pc, oc) {
-        return 65;
-    }
-    let rings = b.rings;
-    if !ring::rings_fit(rings, pc) {
-        return 65;
-    }
-    if !stand::stand_once(flights, objects) {
-        return 65;
+    let tables_fit = book::counts_fit(b.nodes, pc, oc, b.process_home, b.object_home)
+        && book::processes_fit(b.processes, pc, oc)
+        && book::objects_fit(b.objects, pc, oc)
+        && message::messages_fit(b.flights, b.lists, b.occupied, pc, oc)
+        && ring::rings_fit(b.rings, pc);
+    // Those who stand are noted by number, so their numbers are tested first.
+    let fits = tables_fit && stand::stand_once(b.flights, b.objects);
+    if !fits {
+        return None;
     }
     let load = sums::load(b);
-    if 64 < load {
-        return 65;
-    }
-    load
+    (load <= 64).then_some(load)
 }
 
 // "A board is in shape when .."
 pub fn in_shape(b: Board) -> bool
     ensures { result ≡ in_shape b }
 {
-    load_in_shape(b) <= 64
+    load_in_shape(b).is_some()
 }

@@ -25,11 +25,9 @@ pub fn row_fits(row: [u8; 16], n: u8, c: u8) -> bool
     ensures { result ≡ row_fits row n c }
 {
     let end = wide(n);
-    let mut wrong: u8 = 0;
-    let mut k: usize = 0;
-    while k < 16 {
-        wrong = wrong | over(row[k], limit_at(k, end, c));
-        k += 1;
+    let mut wrong = 0;
+    for (k, x) in row.iter().enumerate() {
+        wrong |= over(*x, limit_at(k, end, c));
     }
     wrong == 0
 }
@@ -38,11 +36,12 @@ pub fn row_fits(row: [u8; 16], n: u8, c: u8) -> bool
 pub fn are_zero(row: [u8; 16], other: [u8; 16]) -> bool
     ensures { result ≡ row_fits row 0 0 && row_fits other 0 0 }
 {
-    let mut any: u8 = 0;
-    let mut k: usize = 0;
-    while k < 16 {
-        any = any | row[k] | other[k];
-        k += 1;
+    let mut any = 0;
+    for x in &row {
+        any |= *x;
+    }
+    for y in &other {
+        any |= *y;
     }
     any == 0
 }

@@ -1,51 +1,33 @@
-// Who stands somewhere, and whether one stands twice: in a list, in a ring, in the lines and the requests.
-ghost use Rattle.std.specs.Prelude.{◌≡◌, ◌<◌, eqb};
+// Who stands somewhere, and whether one stands twice: in a list, in a ring, in the lines and the requests. Those who stand are a set of
+// numbers, and there is none once one of them stands twice.
+ghost use Rattle.std.specs.Prelude.{◌≡◌, ◌<◌, is_some, option_and_then};
 ghost use Rattle.rules.specs.Shape as Rules;
-ghost use Rattle.shape.specs.Stand.{nobody, noted, noted_row, noted_kind, noted_requests, noted_lines, AskerFits, RowFits, AskersFit, LinesFit};
+ghost use Rattle.shape.specs.Stand.{noted, noted_row, noted_kind, noted_requests, noted_lines, AskerFits, RowFits, AskersFit, LinesFit};
 
 use rules::{Flight, Kind, Object};
-use values::bits::wide;
+use values::bits::{has, wide, with};
 
-// Those who stand, as a set, and whether one of them stands twice: then `twice` is 1. Both are whole words, since a record with a gap in
-// it is slow to copy.
-#[derive(Clone, Copy)]
-pub struct Standing {
-    pub who: u64,
-    pub twice: u64,
-}
-
-fn nobody_yet() -> Standing
-    ensures { result ≡ nobody }
-{
-    Standing { who: 0, twice: 0 }
-}
-
-// Process p stands: for the second time, if it is in the set.
-fn note(s: Standing, p: u8) -> Standing
+// Process p stands too.
+fn note(standing: u64, p: u8) -> Option<u64>
     requires { p < 16 }
-    ensures { result ≡ noted s p }
+    ensures { result ≡ noted standing p }
 {
-    let bit: u64 = 1 << p;
-    let again = (s.who >> p) % 2;
-    Standing {
-        who: s.who | bit,
-        twice: s.twice | again,
+    if has(standing, p) {
+        None
+    } else {
+        Some(with(standing, p))
     }
 }
 
-// The first n of a row stand.
-fn note_row(s: Standing, row: [u8; 16], n: u8) -> Standing
+// The first n of a row stand too.
+fn note_row(mut standing: u64, row: [u8; 16], n: u8) -> Option<u64>
     requires { RowFits row n }
-    ensures { result ≡ noted_row s row n }
+    ensures { result ≡ noted_row standing row n }
 {
-    let end = wide(n);
-    let mut now = s;
-    let mut k: usize = 0;
-    while k < end {
-        now = note(now, row[k]);
-        k += 1;
+    for p in &row[..wide(n)] {
+        standing = note(standing, *p)?;
     }
-    now
+    Some(standing)
 }
 
 // The first n of a row are different.
@@ -53,60 +35,48 @@ pub fn different(row: [u8; 16], n: u8) -> bool
     requires { RowFits row n }
     ensures { result ≡ Rules.different row n }
 {
-    let s = note_row(nobody_yet(), row, n);
-    s.twice == 0
+    note_row(0, row, n).is_some()
 }
 
-// The process of a request stands; no other message has one that does.
-fn note_kind(s: Standing, kind: Kind) -> Standing
+// The process of a request stands too; no other message has one that does.
+fn note_kind(standing: u64, kind: Kind) -> Option<u64>
     requires { AskerFits kind }
-    ensures { result ≡ noted_kind s kind }
+    ensures { result ≡ noted_kind standing kind }
 {
     match kind {
-        Kind::Free => s,
-        Kind::Request(p, _, _) => note(s, p),
-        Kind::Grant(_, _, _) => s,
-        Kind::Release(_, _) => s,
-        Kind::ListToHome => s,
-        Kind::ListToObject(_) => s,
+        Kind::Request(p, _, _) => note(standing, p),
+        _ => Some(standing),
     }
 }
 
-fn note_requests(flights: [Flight; 64]) -> Standing
+fn note_requests(flights: [Flight; 64]) -> Option<u64>
     requires { AskersFit flights }
     ensures { result ≡ noted_requests flights 64 }
 {
-    let mut now = nobody_yet();
-    let mut n: usize = 0;
-    while n < 64 {
-        let flight = flights[n];
-        let kind = flight.kind;
-        now = note_kind(now, kind);
-        n += 1;
+    let mut standing = 0;
+    for flight in &flights {
+        standing = note_kind(standing, flight.kind)?;
     }
-    now
+    Some(standing)
 }
 
-fn note_lines(s: Standing, books: [Object; 16]) -> Standing
+fn note_lines(mut standing: u64, books: [Object; 16]) -> Option<u64>
     requires { LinesFit books }
-    ensures { result ≡ noted_lines s books 16 }
+    ensures { result ≡ noted_lines standing books 16 }
 {
-    let mut now = s;
-    let mut o: usize = 0;
-    while o < 16 {
-        let object = books[o];
-        let line = object.line;
-        now = note_row(now, line, object.line_count);
-        o += 1;
+    for book in &books {
+        standing = note_row(standing, book.line, book.line_count)?;
     }
-    now
+    Some(standing)
 }
 
 // "no process stands twice over all lines and request messages taken together"
 pub fn stand_once(flights: [Flight; 64], books: [Object; 16]) -> bool
     requires { AskersFit flights × LinesFit books }
-    ensures { result ≡ eqb (noted_lines (noted_requests flights 64) books 16).twice 0 }
+    ensures { result ≡ is_some (option_and_then (λ s. noted_lines s books 16) (noted_requests flights 64)) }
 {
-    let s = note_lines(note_requests(flights), books);
-    s.twice == 0
+    match note_requests(flights) {
+        Some(standing) => note_lines(standing, books).is_some(),
+        None => false,
+    }
 }

@@ -1,13 +1,11 @@
 -- The contracts of the crate's public functions determine what they answer: answer, board, count, the part's bytes and every byte of the lent room.
-use mathlib.Core.Path.{refl}
+use Rattle.std.proofs.Common.{refl, ℕ, List}
 use seplogic.Ra.Ura.{Ura}
 use base.Logic.{SProp}
 use prog.Memory.{Memory}
 use prog.Routine.{Routine}
 use types.Logic.{Logic}
 use contract.Monad.{Fun}
-use Prim.Native.Nat.{ℕ}
-use mathlib.Core.List.{List}
 use Rattle.rules.specs.declared.Ran.{Ran}
 use Rattle.rules.specs.Sheet as Sheet
 use Rattle.rules.specs.Determined.{Determined}

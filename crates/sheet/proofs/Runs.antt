@@ -1,26 +1,16 @@
 -- A sheet run whole: a refused one hands back its answer and the board of zeros, and a good one is its commands run on its opening.
 -- Assumes nothing.
-use mathlib.Core.Path.{◌≡◌, refl, sym, ap, ◌∙◌}
-use mathlib.Core.Bool.{true, false}
-use mathlib.Core.List.{List, []}
-use Prim.Native.Nat.{ℕ, ◌%◌, ◌≤◌, ◌<◌}
-use native.Mathlib.Omega.{arith}
-use lib.Dec.{eqb, ltb}
-use lib.ListN.{length}
-use borrow.Author.Tests.{lt-ltb, le-leb}
+use Rattle.std.proofs.Common.{◌≡◌, refl, sym, ap, ◌∙◌, true, false, List, [], ℕ, ◌%◌, ◌≤◌, ◌<◌, arith, eqb, ltb, length, lt-ltb, le-leb}
 use Rattle.rules.specs.declared.Answer.{Answer}
 use Rattle.rules.specs.declared.Answer.TheVariants.{Done, HomeOutside, SheetCut, WrongForm, SpareBit, OddByte, TooManyCommands}
 use Rattle.rules.specs.declared.Ran.{Ran}
-use Rattle.rules.specs.Answers.{number, done, first_of}
+use Rattle.rules.specs.Answers.{done, first_of}
 use Rattle.rules.specs.Commands.{zero_board, outside, home_outside, opening}
 use Rattle.rules.specs.Sheet.{Run, nodes_of, processes_of, objects_of, process_homes, object_homes, command_count, after_homes, reader_answer, commands_part, refused_run, sheet_answer, run_opening, run_sheet}
 use Rattle.rules.proofs.Sheet.{field_below}
 use Rattle.laws.proofs.Ranges.{passed}
 use Rattle.reader.specs.declared.Found.{Found}
 use Rattle.reader.specs.Found.{found_in}
-use Rattle.sheet.specs.Refusals.{sheet_tests}
-use Rattle.sheet.proofs.Order.{from_start}
-use Rattle.sheet.proofs.Parts.{answer_is, good, refused}
 
 -- ---- the counts and the homes of a good sheet are those of an opening
 inside : (n top : ℕ) → 0 < n → n ≤ top → outside n top ≡ false
@@ -70,22 +60,18 @@ module _ (s : List ℕ) where
   unfolding run_sheet sheet_answer first_of
   refuses room e = rw (e, e)
 
--- ---- what the program has: the sheet was read, its tests gave the answer, the answer's number is n
+-- ---- what the program has: what the sheet was found to hold, or its refusal
 abbrev Runs : List ℕ → List ℕ → Ran → List ℕ → Type 0
 Runs s room r after = (r ≡ (run_sheet s room).ran) × (after ≡ (run_sheet s room).room)
 
-module _ (s room : List ℕ) {h : Found} {a : Answer} {n : ℕ} (read : h ≡ found_in s) (tests : a ≡ first_of (sheet_tests (length s) h)) (is : n ≡ number a) where
-  whole_good : n ≡ 0 → done (reader_answer s) ≡ true
-  whole_good e = answer_is s read tests is ∙ good s read tests is e
-
-  pub run_refused : (n ≡ 0 → ⊥) → {r : Ran} → r ≡ (refused_run a zero_board []).ran → Runs s room r room
-  run_refused f e =
-      let same : reader_answer s ≡ a = sym (from_start s read) ∙ sym tests in
-      let g : refused_run a zero_board room ≡ run_sheet s room = ap (λ (x : Answer). refused_run x zero_board room) (sym same) ∙ refuses s room (ap done same ∙ refused s read tests is f) in
+module _ (s room : List ℕ) where
+  pub run_refused : {a : Answer} → a ≡ reader_answer s → done a ≡ false → {r : Ran} → r ≡ (refused_run a zero_board []).ran → Runs s room r room
+  run_refused {a} same bad e =
+      let g : refused_run a zero_board room ≡ run_sheet s room = ap (λ (x : Answer). refused_run x zero_board room) same ∙ refuses s room (sym (ap done same) ∙ bad) in
       (e ∙ ap (λ (x : Run). x.ran) g, ap (λ (x : Run). x.room) g)
 
-  pub run_good : n ≡ 0 → {part : List ℕ} → part ≡ commands_part s → {r : Ran} {after : List ℕ}
+  pub run_good : {h : Found} → h ≡ found_in s → reader_answer s ≡ Done → {part : List ℕ} → part ≡ commands_part s → {r : Ran} {after : List ℕ}
       → (r ≡ (run_opening h.nodes h.processes h.objects h.process_home h.object_home part room).ran) × (after ≡ (run_opening h.nodes h.processes h.objects h.process_home h.object_home part room).room) → Runs s room r after
-  run_good e {part} p x =
-      let g : run_opening h.nodes h.processes h.objects h.process_home h.object_home part room ≡ run_sheet s room = rw (read, p) (runs s (whole_good e) room) in
+  run_good {h} read good {part} p x =
+      let g : run_opening h.nodes h.processes h.objects h.process_home h.object_home part room ≡ run_sheet s room = rw (read, p) (runs s (ap done good) room) in
       (x.0 ∙ ap (λ (y : Run). y.ran) g, x.1 ∙ ap (λ (y : Run). y.room) g)

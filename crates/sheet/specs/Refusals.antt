@@ -1,9 +1,14 @@
 -- The reader's tests, over the length of a sheet and what the pass over it found.
-use Rattle.std.specs.Prelude.{ℕ, ◌-◌, ◌/◌, ◌%◌, Bool, not, List, [], ◌∷◌, eqb, ltb}
+use Rattle.std.specs.Prelude.{ℕ, ◌≡◌, ◌-◌, ◌/◌, ◌%◌, Bool, false, not, List, [], ◌∷◌, eqb, ltb, Result, MatchResult}
 use Rattle.rules.specs.declared.Answer.{Answer}
-use Rattle.rules.specs.declared.Answer.TheVariants.{HomeOutside, SheetCut, WrongForm, SpareBit, OddByte, TooManyCommands}
+use Rattle.rules.specs.declared.Answer.TheVariants.{Done, HomeOutside, SheetCut, WrongForm, SpareBit, OddByte, TooManyCommands}
+use Rattle.rules.specs.Answers.{done, first_of}
 use Rattle.rules.specs.Commands.{home_outside}
 use Rattle.reader.specs.declared.Found.{Found}
+
+-- the tests were made in order: none held, or the first that held gave the refusal
+abbrev pub Tells : {A : Type 0} → Result A Answer → List (Bool × Answer) → Type 0
+Tells r tests = MatchResult r (λ _. first_of tests ≡ Done) (λ a. (a ≡ first_of tests) × (done a ≡ false))
 
 -- "15, 16, 14 (commands)": of l bytes of commands, where a spare bit is set in one of them or in none
 abbrev pub part_tests : ℕ → Bool → List (Bool × Answer)

@@ -1,10 +1,16 @@
 -- The commands of a part one by one, each by a call of its own, which asks the shape of the board first.
-use Rattle.std.specs.Prelude.{ℕ, zero, suc, ◌-◌, ◌/◌, min, List, [], ◌∷◌, set, length, take}
+use Rattle.std.specs.Prelude.{◌≡◌, ℕ, zero, suc, ◌-◌, ◌/◌, min, List, [], ◌∷◌, set, length, take}
 use Rattle.rules.specs.declared.Board.{Board}
+use Rattle.rules.specs.declared.Command.{Command}
 use Rattle.rules.specs.declared.Ran.{Ran}
+use Rattle.rules.specs.declared.Stepped.{Stepped}
 use Rattle.rules.specs.Answers.{number}
 use Rattle.rules.specs.Shape.{step}
 use Rattle.rules.specs.Sheet.{command_at, commands_part, Run, run_sheet}
+
+-- a step whose result is always the rule's
+abbrev pub ByRule : (Board → Command → Stepped → Type 0) → Type 0
+ByRule post = (b : Board) (c : Command) (r : Stepped) → post b c r → r ≡ step b c
 
 -- the board after i commands
 unfoldable pub board_by_steps : Board → List ℕ → ℕ → Board

@@ -3,8 +3,7 @@
 #![tactic(auto)]
 
 ghost use Rattle.std.specs.Prelude.{◌≡◌, ◌*◌, ◌≤◌, length};
-ghost use Rattle.rules.specs.Shape as Rules;
-ghost use Rattle.steps.specs.BySteps.{board_by_steps, room_by_steps, commands_of, by_steps};
+ghost use Rattle.steps.specs.BySteps.{ByRule, board_by_steps, room_by_steps, commands_of, by_steps};
 
 use crate::command::command_at;
 use program::Errors;
@@ -12,29 +11,22 @@ use rules::{Board, Command, Ran, Stepped};
 
 mod command;
 
-// One command, in lent room or by value.
-fn step(b: Board, c: Command, lent: bool) -> Stepped
-    ensures { result ≡ Rules.step b c }
-{
-    if lent {
-        return room::step_lent(b, c);
-    }
-    bench::step(b, c)
-}
-
-// The first n commands of a part, one by one; the number of each answer goes into the room.
-fn steps(opened: Board, part: &[u8], n: usize, lent: bool, room: &mut [u8; 4096]) -> Board
-    requires { (n ≤ 4096) × (2 * n ≤ length part.now) }
+// The first n commands of a part, one by one, each by the step that is handed in; the number of each answer goes into the room.
+fn steps<F: Fn(Board, Command) -> Stepped>(
+    opened: Board,
+    part: &[u8],
+    n: usize,
+    step: F,
+    room: &mut [u8; 4096],
+) -> Board
+    requires { (n ≤ 4096) × (2 * n ≤ length part.now) × F.IsAlwaysCallable step × ByRule (F.post step) }
     ensures { (result ≡ board_by_steps opened part.now n) × (room.new ≡ room_by_steps opened part.now room.old n) }
 {
     let mut b = opened;
-    let mut i: usize = 0;
-    while i < n {
-        let stepped = step(b, command_at(part, i), lent);
-        let answer = stepped.answer;
-        room[i] = values::answer::number(answer);
+    for i in 0..n {
+        let stepped = step(b, command_at(part, i));
+        room[i] = u8::from(stepped.answer);
         b = stepped.board;
-        i += 1;
     }
     b
 }
@@ -43,12 +35,12 @@ fn steps(opened: Board, part: &[u8], n: usize, lent: bool, room: &mut [u8; 4096]
 fn count(part: &[u8]) -> usize
     ensures { result ≡ commands_of part.now }
 {
-    let n = part.len() / 2;
-    if n <= 4096 { n } else { 4096 }
+    (part.len() / 2).min(4096)
 }
 
 // The sheet without its commands opens the board. Of a refused sheet no part is handed back, and the whole of it is refused again.
-fn run(s: &[u8], lent: bool, room: &mut [u8; 4096]) -> Ran
+fn run<F: Fn(Board, Command) -> Stepped>(s: &[u8], step: F, room: &mut [u8; 4096]) -> Ran
+    requires { F.IsAlwaysCallable step × ByRule (F.post step) }
     ensures { (result ≡ (by_steps s.now room.old).ran) × (room.new ≡ (by_steps s.now room.old).room) }
 {
     let part = sheet::commands(s);
@@ -56,13 +48,11 @@ fn run(s: &[u8], lent: bool, room: &mut [u8; 4096]) -> Ran
     let start = s.len() - part.len();
     let mut no_answers = [0u8; 1];
     let opened = sheet::run(&s[..start], &mut no_answers);
-    let answer = opened.answer;
-    let board = opened.board;
-    let last = steps(board, part, n, lent, room);
+    let board = steps(opened.board, part, n, step, room);
     Ran {
-        answer: answer,
+        answer: opened.answer,
         commands: n,
-        board: last,
+        board,
     }
 }
 
@@ -70,7 +60,7 @@ fn run(s: &[u8], lent: bool, room: &mut [u8; 4096]) -> Ran
 pub fn show(rt: &(impl Print + Errors), s: &[u8]) {
     let mut by_value = [0u8; 4096];
     let mut in_room = [0u8; 4096];
-    let first = run(s, false, &mut by_value);
-    let second = run(s, true, &mut in_room);
+    let first = run(s, bench::step, &mut by_value);
+    let second = run(s, room::step_lent, &mut in_room);
     report::show_both(rt, first, &by_value, second, &in_room);
 }

@@ -1,11 +1,12 @@
 // Reads a stream of sheets to its end, piece by piece, into a chart. A piece is let go when it is taken in: a stream may have any length.
 #![tactic(auto)]
 
-ghost use Rattle.std.specs.Prelude.{◌≡◌, List, ℕ, None, replicate};
+ghost use Rattle.std.specs.Prelude.{◌≡◌, List, ℕ, replicate, IsOk};
 ghost use Rattle.std.specs.Io.KnownBytes.{Consumes, IsAtEnd};
 ghost use Rattle.stream.specs.Pieces.{chart_of};
+ghost use Rattle.stream.specs.Read.{chart_read};
 
-use program::Errors;
+use program::{Errors, read_some};
 use screen::Screen;
 use std::io::{Error, ErrorKind, Write};
 use std::rt::Clock;
@@ -14,11 +15,11 @@ use term::Chart;
 
 pub mod screen;
 
-// What came of reading: the chart of what was read, and why a read failed if one did. Then the end of the stream was not read.
+// A read failed: the chart of what had come, and why it failed. The end of the stream was not read.
 #[derive(Clone, Copy)]
-pub struct Taken {
+pub struct Broken {
     pub chart: Chart,
-    pub failed: Option<Error>,
+    pub why: Error,
 }
 
 // The buffer for one sheet, empty.
@@ -28,65 +29,66 @@ fn no_sheet() -> [u8; 8206]
     [0; 8206]
 }
 
-// The count on the terminal is gone before anything else is told.
-fn over<R: Errors, F: Write + Drop>(
-    rt: &R,
-    chart: Chart,
-    failed: Option<Error>,
-    screen: Screen<F>,
-) -> Taken
-    ensures chart { result.chart ≡ chart }
-    ensures failed { result.failed ≡ failed }
-{
-    screen::cleared(rt, screen);
-    Taken { chart, failed }
-}
-
-// Until the stream ends or a read fails. The contract says that pieces were taken in and nothing else was done; of a reader whose bytes are
-// known (no file is one) also that they were those bytes, and, where no read failed, all of them. What it says of a failure is not proved but
-// tested. A proved loop has to end, so it counts its turns, up to a number that no stream reaches; one that did would count as failed, since
-// its end was not read.
-pub fn whole<R: Errors + Clock + CpuClock, F: Write + Drop, I: std::io::Read>(
+// Until the stream ends or a read fails, with a count on the terminal. A proved loop has to end, so it counts its turns, up to a number that
+// no stream reaches; one that did would count as failed, since its end was not read.
+fn taken_in<R: Errors + Clock + CpuClock, F: Write, I: std::io::Read>(
     rt: &R,
     from: &mut I,
-    terminal: Screen<F>,
-) -> Taken
-    ensures pieces { (w : List ℕ) × (result.chart ≡ chart_of w) × Consumes (I.remaining from.old) (I.remaining from.new) w }
-    ensures end { result.failed ≡ None → IsAtEnd (I.remaining from.new) }
+    screen: &mut Screen<F>,
+) -> Result<Chart, Broken>
+    ensures pieces { (w : List ℕ) × (chart_read result ≡ chart_of w) × Consumes (I.remaining from.old) (I.remaining from.new) w }
+    ensures end { IsOk result → IsAtEnd (I.remaining from.new) }
 {
     let mut piece = io::large_buffer();
     let mut sheet = no_sheet();
     let mut chart = term::new();
-    let mut screen = terminal;
     for _ in 0..usize::MAX {
-        let got = program::read_some(from, &mut piece);
-        let n = got.count;
-        if n == 0 {
-            return over(rt, chart, got.failed, screen);
+        match read_some(from, &mut piece) {
+            Ok(0) => return Ok(chart),
+            Ok(n) => chart = term::feed(chart, &mut sheet, &piece[..n]),
+            Err(why) => return Err(Broken { chart, why }),
         }
-        chart = term::feed(chart, &mut sheet, &piece[..n]);
-        screen = screen::counted(rt, screen, chart.totals.sheets);
+        screen::counted(rt, screen, chart.totals.sheets);
     }
-    let failed = Some(Error::from(ErrorKind::FileTooLarge));
-    over(rt, chart, failed, screen)
+    Err(Broken {
+        chart,
+        why: Error::from(ErrorKind::FileTooLarge),
+    })
+}
+
+// The chart of the stream. The contract says that pieces were taken in and nothing else was done; of a reader whose bytes are known (no file
+// is one) also that they were those bytes, and, where no read failed, all of them. What it says of a failure is not proved but tested. The
+// count on the terminal is gone before anything else is told.
+pub fn whole<R: Errors + Clock + CpuClock, F: Write + Drop, I: std::io::Read>(
+    rt: &R,
+    from: &mut I,
+    terminal: Screen<F>,
+) -> Result<Chart, Broken>
+    ensures pieces { (w : List ℕ) × (chart_read result ≡ chart_of w) × Consumes (I.remaining from.old) (I.remaining from.new) w }
+    ensures end { IsOk result → IsAtEnd (I.remaining from.new) }
+{
+    let mut screen = terminal;
+    let read = taken_in(rt, from, &mut screen);
+    screen::cleared(rt, &mut screen);
+    read
 }
 
 #[cfg(test)]
 mod tests {
     use super::whole;
-    use crate::screen::{Outlet, Screen};
+    use crate::screen::{Moment, Outlet, Screen};
     use std::fs::File;
     use std::io::{Error, ErrorKind, Result};
 
     // Gives a zero byte at each of its first reads: a length of 0 and so an empty sheet after two, and half a length after the third. It fails
     // at the fourth, or ends there.
     #[derive(Drop)]
-    struct Broken {
+    struct Faulty {
         turn: u8,
         fails: bool,
     }
 
-    impl std::io::Read for Broken {
+    impl std::io::Read for Faulty {
         fn read(&mut self, buf: &mut [u8]) -> Result<usize> {
             self.turn = self.turn.saturating_add(1);
             if self.turn > 3 && self.fails {
@@ -104,34 +106,37 @@ mod tests {
         Screen {
             terminal: Outlet::Nowhere,
             shown: 0,
-            eighth: 0,
-            second: 0,
+            counted: Moment::default(),
         }
     }
 
     #[test]
     fn a_failure_is_handed_on(rt: HostRuntime) {
-        let mut from = Broken {
+        let mut from = Faulty {
             turn: 0,
             fails: true,
         };
-        let taken = whole(&rt, &mut from, no_terminal());
-        assert_eq!(rt; taken.chart.totals.sheets, 1);
-        match taken.failed {
-            Some(why) => assert!(rt; why.kind() == ErrorKind::ConnectionReset),
-            None => assert!(rt; false),
+        match whole(&rt, &mut from, no_terminal()) {
+            Ok(_) => assert!(rt; false),
+            Err(broken) => {
+                assert_eq!(rt; broken.chart.totals.sheets, 1);
+                assert!(rt; broken.why.kind() == ErrorKind::ConnectionReset);
+            }
         }
     }
 
     #[test]
     fn an_end_is_no_failure(rt: HostRuntime) {
-        let mut from = Broken {
+        let mut from = Faulty {
             turn: 0,
             fails: false,
         };
-        let taken = whole(&rt, &mut from, no_terminal());
-        assert_eq!(rt; taken.chart.totals.sheets, 1);
-        assert!(rt; taken.failed.is_none());
-        assert_eq!(rt; term::ended(taken.chart).totals.sheets, 2);
+        match whole(&rt, &mut from, no_terminal()) {
+            Ok(chart) => {
+                assert_eq!(rt; chart.totals.sheets, 1);
+                assert_eq!(rt; term::ended(chart).totals.sheets, 2);
+            }
+            Err(_) => assert!(rt; false),
+        }
     }
 }

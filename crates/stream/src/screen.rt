@@ -1,7 +1,8 @@
 // A count on the terminal while a program goes on: one line, written over itself about ten times a second at most, and gone at the end.
 // Where standard error is no terminal nothing is written.
-ghost use Rattle.std.specs.Prelude.{◌∷◌, ◌++◌, ◌≤◌};
-ghost use Rattle.text.specs.Text.{bytes, decimal, Wrote};
+ghost use Rattle.std.specs.Prelude.{◌≡◌, ◌∷◌, ◌++◌, ◌≤◌};
+ghost use Rattle.arrayvec.specs.ArrayVec.{array_vec_len};
+ghost use Rattle.text.specs.Text.{bytes, decimal};
 
 use program::Errors;
 use std::fs;
@@ -10,6 +11,7 @@ use std::io::{IsTerminal, Write};
 use std::os::unix::fs::FileTypeExt;
 use std::rt::Clock;
 use std::time::CpuClock;
+use text::Page;
 
 // Where the count is written: to standard error, to the terminal that a script handed on, or nowhere.
 #[derive(Drop)]
@@ -19,24 +21,26 @@ pub enum Outlet<F> {
     Nowhere,
 }
 
-// The terminal; how many letters stand there; and the time of the last count: in eighths of a second of the processor, and in seconds of the
-// clock, which goes on while a read waits.
+// When it was: in eighths of a second of the processor, and in seconds of the clock, which goes on while a read waits.
+#[derive(Clone, Copy, Default, PartialEq, Eq)]
+pub struct Moment {
+    pub eighth: u64,
+    pub second: u64,
+}
+
+// The terminal; how many letters stand there; and when the last count was written.
 #[derive(Drop)]
 pub struct Screen<F> {
     pub terminal: Outlet<F>,
     pub shown: usize,
-    pub eighth: u64,
-    pub second: u64,
+    pub counted: Moment,
 }
 
 // A script that takes standard error in hands its terminal on as 9. Only a device is opened: a pipe would wait for its other end.
 const HANDED: &str = "/dev/fd/9";
 
 fn is_device(rt: &impl Files) -> bool {
-    match fs::metadata(rt, HANDED) {
-        Ok(file) => file.file_type().is_char_device(),
-        Err(_) => false,
-    }
+    fs::metadata(rt, HANDED).is_ok_and(|file| file.file_type().is_char_device())
 }
 
 fn handed<R: Files>(rt: &R) -> Outlet<R::File>
@@ -64,19 +68,16 @@ where
 
 // A clock that cannot be read stands still.
 fn eighth(rt: &impl CpuClock) -> u64 {
-    match rt.process_cpu_time() {
-        Ok(time) => {
-            let part = u64::from(time.subsec_nanos() / 125_000_000);
-            time.as_secs().wrapping_mul(8).wrapping_add(part)
-        }
-        Err(_) => 0,
-    }
+    rt.process_cpu_time().map_or(0, |time| {
+        let part = u64::from(time.subsec_nanos() / 125_000_000);
+        time.as_secs().wrapping_mul(8).wrapping_add(part)
+    })
 }
 
-fn second(rt: &impl Clock) -> u64 {
-    match rt.since_1970() {
-        Ok(time) => time.as_secs(),
-        Err(_) => 0,
+fn now<R: Clock + CpuClock>(rt: &R) -> Moment {
+    Moment {
+        eighth: eighth(rt),
+        second: rt.since_1970().map_or(0, |time| time.as_secs()),
     }
 }
 
@@ -88,17 +89,17 @@ where
     Screen {
         terminal: terminal(rt),
         shown: 0,
-        eighth: eighth(rt),
-        second: second(rt),
+        counted: now(rt),
     }
 }
 
 // From the start of the line on.
-fn line(out: &mut [u8; 65536], sheets: u64) -> usize
-    ensures { (Wrote out.old 0 ((13 ∷ bytes "sheets ") ++ decimal sheets) out.new result) × (result ≤ 65536) }
+fn line(out: &mut Page, sheets: u64)
+    ensures { (out.new.items ≡ (13 ∷ bytes "sheets ") ++ decimal sheets) × (array_vec_len out.new ≤ 65536) }
 {
-    let named = text::word(out, 0, b"\rsheets ");
-    text::total(out, named, sheets)
+    out.clear();
+    text::word(out, b"\rsheets ");
+    text::number(out, sheets);
 }
 
 // A write that fails is let be: the count is no part of what the program has to tell.
@@ -114,43 +115,33 @@ fn write<F: Write>(rt: &impl Errors, terminal: &mut Outlet<F>, bytes: &[u8]) {
 
 // Handed back is how many letters stand there then.
 fn show<F: Write>(rt: &impl Errors, terminal: &mut Outlet<F>, sheets: u64) -> usize {
-    let mut out = io::large_buffer();
-    let end = line(&mut out, sheets);
-    write(rt, terminal, text::start(&out, end));
-    end
+    let mut out = Page::new();
+    line(&mut out, sheets);
+    write(rt, terminal, out.as_slice());
+    out.len()
 }
 
 // The count, if it is time for it.
-pub fn counted<R: Errors + Clock + CpuClock, F: Write + Drop>(
+pub fn counted<R: Errors + Clock + CpuClock, F: Write>(
     rt: &R,
-    screen: Screen<F>,
+    screen: &mut Screen<F>,
     sheets: u64,
-) -> Screen<F> {
-    if let Outlet::Nowhere = screen.terminal {
-        return screen;
+) {
+    if matches!(screen.terminal, Outlet::Nowhere) {
+        return;
     }
-    let eighth = eighth(rt);
-    let second = second(rt);
-    if eighth == screen.eighth && second == screen.second {
-        return screen;
-    }
-    let mut terminal = screen.terminal;
-    let shown = show(rt, &mut terminal, sheets);
-    Screen {
-        terminal,
-        shown,
-        eighth,
-        second,
+    let moment = now(rt);
+    if moment != screen.counted {
+        screen.shown = show(rt, &mut screen.terminal, sheets);
+        screen.counted = moment;
     }
 }
 
 // The count is gone, and the next text starts where it stood. It has 28 letters at most, of which the first goes to the line's start.
-pub fn cleared<F: Write + Drop>(rt: &impl Errors, screen: Screen<F>) {
-    if screen.shown == 0 {
-        return;
+pub fn cleared<F: Write>(rt: &impl Errors, screen: &mut Screen<F>) {
+    if screen.shown != 0 {
+        let blank = text::start(b"\r                           ", screen.shown);
+        write(rt, &mut screen.terminal, blank);
+        write(rt, &mut screen.terminal, b"\r");
     }
-    let blank = text::start(b"\r                           ", screen.shown);
-    let mut terminal = screen.terminal;
-    write(rt, &mut terminal, blank);
-    write(rt, &mut terminal, b"\r");
 }

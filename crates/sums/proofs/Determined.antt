@@ -1,6 +1,5 @@
 -- The contracts of the crate's public functions determine their results.
-use mathlib.Core.Path.{refl}
-use Prim.Native.Nat.{◌≤◌}
+use Rattle.std.proofs.Common.{refl, ◌≤◌}
 use seplogic.Ra.Ura.{Ura}
 use base.Logic.{SProp}
 use prog.Memory.{Memory}

@@ -1,25 +1,21 @@
 // The two sums over a board: its load and its ring tally.
 #![tactic(auto)]
 
-ghost use Rattle.std.specs.Prelude.{◌≡◌, ◌≤◌};
-ghost use Rattle.rules.specs.Tables.{pick, sum};
+ghost use Rattle.std.specs.Prelude.{◌≡◌, ◌≤◌, ltb};
+ghost use Rattle.rules.specs.Tables.{sum};
 ghost use Rattle.rules.specs.Board as Rules;
 
 use rules::{Board, Ring};
-use values::bits::wide;
 use values::message::kind_load;
 
-// The load of the messages in flight.
+// The load of the messages in flight. This sum and the next are loops of their own: one function for both would take the table and, as a
+// closure, what a record adds, and a bound on that in its contract; each loop is shorter than that.
 fn in_messages(b: Board) -> usize
     ensures { (result ≡ sum 64 (λ n. Rules.kind_load (Rules.kind_at b n))) × (result ≤ 128) }
 {
-    let mut load: usize = 0;
-    let mut n: usize = 0;
-    while n < 64 {
-        let flight = b.flights[n];
-        let kind = flight.kind;
-        load += kind_load(kind);
-        n += 1;
+    let mut load = 0;
+    for flight in &b.flights {
+        load += kind_load(flight.kind);
     }
     load
 }
@@ -28,12 +24,9 @@ fn in_messages(b: Board) -> usize
 fn in_lines(b: Board) -> usize
     ensures { (result ≡ sum 16 (λ o. (Rules.object_at b o).line_count)) × (result ≤ 4080) }
 {
-    let mut load: usize = 0;
-    let mut o: usize = 0;
-    while o < 16 {
-        let object = b.objects[o];
-        load += wide(object.line_count);
-        o += 1;
+    let mut load = 0;
+    for object in &b.objects {
+        load += usize::from(object.line_count);
     }
     load
 }
@@ -45,40 +38,30 @@ pub fn load(b: Board) -> usize
     in_messages(b) + in_lines(b)
 }
 
+// A place that holds a recorded ring.
+fn is_filled(ring: &Ring) -> bool
+    ensures { result ≡ ltb 0 ring.now.count }
+{
+    0 < ring.count
+}
+
 // Whether the ring at the place of starter s counts, where recorded rings are counted.
 pub fn counts(rings: [Ring; 16], s: usize) -> bool
     ensures { result ≡ Rules.counts rings s }
 {
-    if 16 <= s {
-        return false;
-    }
-    let ring = rings[s];
-    0 < ring.count
-}
-
-fn one_counted(rings: [Ring; 16], s: usize) -> usize
-    ensures { (result ≡ pick (Rules.counts rings s) 1 0) × (result ≤ 1) }
-{
-    if counts(rings, s) { 1 } else { 0 }
+    rings.get(s).is_some_and(|ring| is_filled(ring))
 }
 
 // How many of the recorded rings count.
 pub fn tally_of(rings: [Ring; 16]) -> usize
     ensures { (result ≡ Rules.tally_of rings) × (result ≤ 16) }
 {
-    let mut tally: usize = 0;
-    let mut s: usize = 0;
-    while s < 16 {
-        tally += one_counted(rings, s);
-        s += 1;
-    }
-    tally
+    rings.iter().filter(|ring| is_filled(ring)).count()
 }
 
 // "The ring tally is the number of filled places."
 pub fn tally(b: Board) -> usize
     ensures { (result ≡ Rules.tally b) × (result ≤ 16) }
 {
-    let rings = b.rings;
-    tally_of(rings)
+    tally_of(b.rings)
 }

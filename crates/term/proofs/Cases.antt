@@ -1,5 +1,5 @@
 -- The streams come to their totals: the checker computes both sides of every row. Assumes nothing.
-use mathlib.Core.Path.{refl}
+use Rattle.std.proofs.Common.{refl}
 use Rattle.rules.specs.Tables.{rows, collect, place_of, among, all, sum}
 use Rattle.rules.specs.Bits.{digit, taken, with_bit, without_bit, free_from, lowest_free, taken_from, lowest_taken}
 use Rattle.rules.specs.Answers.{first_of}

@@ -1,7 +1,5 @@
 -- The contracts of the crate's public functions determine their results, and every byte of the lent buffer.
-use mathlib.Core.Path.{refl}
-use mathlib.Core.List.{List}
-use Prim.Native.Nat.{ℕ}
+use Rattle.std.proofs.Common.{refl, List, ℕ}
 use seplogic.Ra.Ura.{Ura}
 use base.Logic.{SProp}
 use prog.Memory.{Memory}

@@ -1,19 +1,13 @@
 -- Laws of a stream taken in: pieces one after another are one piece, and bytes that lie inside one sheet can be taken at once.
 -- Assumes nothing.
-use mathlib.Core.Path.{◌≡◌, refl, sym, ap, ◌∙◌}
-use mathlib.Core.Bool.{true, false}
-use mathlib.Core.List.{List, [], ◌∷◌, ◌++◌}
-use Prim.Native.Nat.{ℕ, zero, suc, ◌+◌, ◌-◌, ◌≤◌, ◌<◌}
-use native.Mathlib.Omega.{arith}
-use native.Mathlib.Numerals.{add-one}
+use Rattle.std.proofs.Common.{min, ◌≡◌, refl, sym, ap, ◌∙◌, true, false, List, [], ◌∷◌, ◌++◌, ℕ, suc, ◌+◌, ◌-◌, ◌≤◌, ◌<◌, arith, add-one, eqb, length, get_or, take, drop, take-append-drop, take_all, length-take, eq-eqb, ne_eqb, lt-ltb, le-ltb}
+use Rattle.std.proofs.lemmas.Slice.{put_mid-paste}
+use borrow.Rule.Slice.PartMut.{put_mid}
+use lib.Seq.{paste}
 use native.Mathlib.Decide.{dec_lt, ℕ_discrete}
-use lib.Dec.{eqb}
-use lib.ListN.{length, get_or, take, drop, length-drop, take-append-drop}
-use lib.Seq.{length-take-le, drop-drop}
 use Rattle.rules.specs.Tables.{pick}
-use borrow.Author.Tests.{eq-eqb, ne_eqb, lt-ltb, le-ltb}
 use Rattle.text.specs.Text.{at_most, behind}
-use Rattle.text.proofs.Text.{at_most_below, at_most_top, behind_out, behind_one}
+use Rattle.text.proofs.Text.{at_most_below, at_most_top, behind_out, behind_one, written_parts}
 use Rattle.totals.specs.declared.Totals.{Totals}
 use Rattle.totals.specs.Stream.{whole, long, buffer, length_of, sized}
 use Rattle.term.specs.declared.Chart.{Chart}
@@ -46,6 +40,13 @@ at_most_more top n m = elim (dec_lt n top) [
   | yes h ↦ ap (λ (k : ℕ). at_most top (k + m)) (sym (at_most_below top n h))
   | no f ↦ ap (λ (k : ℕ). at_most top (k + m)) (sym (at_most_top top n (omega (arith, f))))
       ∙ sym (at_most_top top (top + m) (omega arith)) ∙ at_most_top top (n + m) (omega (arith, f))
+]
+
+-- the smaller of a count and its limit
+pub at_most_is : (top n k : ℕ) → k ≡ min n top → k ≡ at_most top n
+at_most_is top n k e = elim (dec_lt n top) [
+  | yes h ↦ let f : k ≡ n = omega (arith, e, h) in f ∙ at_most_below top n h
+  | no f ↦ let g : k ≡ top = omega (arith, e, f) in g ∙ at_most_top top n (omega (arith, f))
 ]
 
 -- the count is at its limit only where the buffer is full
@@ -144,21 +145,39 @@ pub ended_at : (c : Chart) (p : Place) → c.place ≡ p → closed (end_at c.to
 unfolding ended
 ended_at c p e = ap (λ (x : Place). closed (end_at c.totals x)) (sym e)
 
--- ---- a part of a piece, as long as can be taken at once
-pub span : (there now n : ℕ) → n ≡ at_most there now → 0 < there → 0 < now → (0 < n) × (n ≤ now)
-span there now n e some one = elim (dec_lt now there) [
-  | yes h ↦ let k : n ≡ now = e ∙ sym (at_most_below there now h) in (omega (arith, k, one), omega (arith, k))
-  | no f ↦ let k : n ≡ there = e ∙ sym (at_most_top there now (omega (arith, f))) in (omega (arith, k, some), omega (arith, k, f))
+-- ---- a piece in two parts
+pub fed_parts : (f : Fed) (n : ℕ) (l : List ℕ) {front back : List ℕ} → front ≡ take n l → back ≡ drop n l → fed f l ≡ fed (fed f front) back
+fed_parts f n l e g = ap (fed f) (sym (take-append-drop n l)) ∙ fed_append f (take n l) (drop n l) ∙ (λ i. fed (fed f (sym e i)) (sym g i))
+
+-- ---- bytes copied into what the buffer has free
+-- some bytes, cut to what there is room for
+cut_to_room : (n room : ℕ) (bytes : List ℕ) → n ≡ min (length bytes) room → take n bytes ≡ take room bytes
+cut_to_room n room bytes e = elim (dec_lt (length bytes) room) [
+  | yes h ↦ take_all n bytes (omega (arith, e, h)) ∙ sym (take_all room bytes (omega (arith, h)))
+  | no f ↦ ap (λ (k : ℕ). take k bytes) (omega (arith, e, f))
 ]
 
-module _ (i n : ℕ) (l : List ℕ) (h : n ≤ length l - i) where
-  abbrev part : List ℕ
-  part = take (i + n - i) (drop i l)
+-- a place past the end of the buffer is as its end
+behind_end : (sheet : List ℕ) (held : ℕ) (bytes : List ℕ) (at : ℕ) → at ≡ min held buffer → behind buffer sheet at bytes ≡ behind buffer sheet held bytes
+behind_end sheet held bytes at e = elim (dec_lt held buffer) [
+  | yes h ↦ ap (λ (k : ℕ). behind buffer sheet k bytes) (omega (arith, e, h))
+  | no f ↦ sym (behind_out buffer sheet at bytes (omega (arith, e, f))) ∙ behind_out buffer sheet held bytes (omega (arith, f))
+]
 
-  pub part_length : length part ≡ n
-  part_length = let e : i + n - i ≡ n = omega arith in rw e (length-take-le n (drop i l) (omega (arith, h, length-drop i l)))
+module _ (sheet bytes : List ℕ) (at n : ℕ) (size : length sheet ≡ buffer) (fits : at ≤ buffer) (m : n ≡ min (length bytes) (buffer - at)) where
+  abbrev kept : List ℕ
+  kept = take (buffer - at) bytes
 
-  pub fed_part : (f : Fed) → fed f (drop i l) ≡ fed (fed f part) (drop (i + n) l)
-  fed_part f =
-      let e : i + n - i ≡ n = omega arith in
-      rw e (ap (fed f) (sym (take-append-drop n (drop i l))) ∙ fed_append f (take n (drop i l)) (drop n (drop i l)) ∙ ap (fed (fed f (take n (drop i l)))) (drop-drop n i l))
+  kept_long : length kept ≡ n
+  kept_long = omega (arith, length-take (buffer - at) bytes, m)
+
+  pasted : paste sheet at kept n ≡ behind buffer sheet at bytes
+  unfolding behind
+  pasted = (λ i. take at sheet ++ take_all n kept (omega (arith, kept_long)) i ++ drop (at + sym kept_long i) sheet) ∙ sym (written_parts sheet at kept (omega (arith, kept_long, size, fits, m)))
+
+pub behind_kept : (sheet : List ℕ) (held : ℕ) (bytes : List ℕ) {at n k : ℕ} {copied : List ℕ} → length sheet ≡ buffer
+    → at ≡ min held buffer → n ≡ min (length bytes) (buffer - at) → k ≡ n → copied ≡ take n bytes → put_mid at k sheet copied ≡ behind buffer sheet held bytes
+behind_kept sheet held bytes {at} {n} {k} {copied} size a m same e =
+    let fits : at ≤ buffer = omega (arith, a) in
+    put_mid-paste at k sheet copied (kept sheet bytes at n size fits m) n (e ∙ cut_to_room n (buffer - at) bytes m) (sym same) (sym (kept_long sheet bytes at n size fits m))
+    ∙ pasted sheet bytes at n size fits m ∙ behind_end sheet held bytes at a

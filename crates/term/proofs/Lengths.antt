@@ -1,10 +1,6 @@
 -- The lengths 2 to 16 are all: the records of the board that a sheet ends on are in shape, as no command on its opening puts one out of
 -- it, and a recorded ring in shape has one of these lengths. Assumes nothing.
-use mathlib.Core.Path.{◌≡◌, refl, sym, ◌∙◌}
-use mathlib.Core.Bool.{true}
-use mathlib.Core.List.{List}
-use Prim.Native.Nat.{ℕ, ◌+◌}
-use lib.ListN.{replicate}
+use Rattle.std.proofs.Common.{◌≡◌, refl, sym, ◌∙◌, true, List, ℕ, ◌+◌, replicate}
 use Rattle.rules.specs.Tables.{sum}
 use Rattle.rules.specs.Board.{tally}
 use Rattle.rules.specs.Answers.{done, first_of}

@@ -1,14 +1,8 @@
 -- Laws of the totals: sheets counted one by one come to the totals of their list, and the totals add up. Assumes nothing.
-use mathlib.Core.Path.{◌≡◌, refl, sym, ap, ◌∙◌}
-use mathlib.Core.Bool.{Bool, true, false}
-use mathlib.Core.List.{List, [], ◌∷◌, ◌++◌, append-nil}
-use Prim.Native.Nat.{ℕ, ◌+◌, ◌≤◌, ◌<◌}
-use native.Mathlib.Omega.{arith}
+use Rattle.std.proofs.Common.{◌≡◌, refl, sym, ap, ◌∙◌, Bool, true, false, List, [], ◌∷◌, ◌++◌, append-nil, ℕ, ◌+◌, ◌≤◌, ◌<◌, arith, eqb, ltb, length, get_or, replicate, le-ltb, ltb-false}
 use native.Mathlib.Decide.{dec_lt}
-use lib.Dec.{eqb, ltb}
-use lib.ListN.{length, get_or, replicate, length-replicate}
+use lib.ListN.{length-replicate}
 use lib.Seq.{append_snoc}
-use borrow.Author.Tests.{le-ltb, ltb-false}
 use Rattle.rules.specs.declared.Answer.{Answer}
 use Rattle.rules.specs.declared.Answer.TheVariants.{Done}
 use Rattle.rules.specs.Tables.{pick, rows, sum}

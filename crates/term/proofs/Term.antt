@@ -1,16 +1,10 @@
 -- A chart has the totals of its stream's sheets, however the stream came in pieces. Assumes nothing.
-use mathlib.Core.Path.{◌≡◌, refl, sym, ap, ◌∙◌}
-use mathlib.Core.List.{List, [], ◌∷◌, ◌++◌}
-use Prim.Native.Nat.{ℕ, zero, suc, ◌+◌, ◌-◌, ◌≤◌, ◌<◌}
-use native.Mathlib.Omega.{arith}
+use Rattle.std.proofs.Common.{◌≡◌, refl, sym, ap, ◌∙◌, List, [], ◌∷◌, ◌++◌, ℕ, zero, suc, ◌+◌, ◌-◌, ◌≤◌, ◌<◌, arith, length, take, drop, length-drop, take-append-drop, length-take-le, take_all, take_at, lt-ltb, le-ltb}
 use native.Mathlib.Decide.{dec_lt}
-use lib.ListN.{length, take, drop, length-drop, take-append-drop}
-use lib.Seq.{length-take-le, take_all, take_at}
-use borrow.Author.Tests.{lt-ltb, le-ltb}
 use Rattle.text.specs.Text.{at_most, written, behind}
 use Rattle.text.proofs.Text.{at_most_below, at_most_top, written_parts, behind_length}
 use Rattle.totals.specs.declared.Totals.{Totals}
-use Rattle.totals.specs.Stream.{Sheet, whole, long, cut, buffer, length_of, sized, sheets_within, sheets_in}
+use Rattle.totals.specs.Stream.{Sheet, whole, cut, buffer, length_of, sized, sheets_within, sheets_in}
 use Rattle.totals.specs.Totals.{totals_of}
 use Rattle.term.specs.declared.Place.TheVariants.{Between}
 use Rattle.term.specs.Feed.{Fed, at, counted, onward, byte, fed, end_at, ended}

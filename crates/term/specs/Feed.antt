@@ -1,5 +1,5 @@
 -- A stream taken in byte by byte: what a byte makes of a chart and of the lent buffer that holds one sheet.
-use Rattle.std.specs.Prelude.{ℕ, ◌+◌, ◌-◌, Bool, false, List, [], ◌∷◌, eqb, ltb}
+use Rattle.std.specs.Prelude.{ℕ, ◌+◌, ◌-◌, Bool, false, List, [], ◌∷◌, eqb}
 use Rattle.rules.specs.Tables.{pick}
 use Rattle.text.specs.Text.{at_most, behind}
 use Rattle.totals.specs.declared.Totals.{Totals}

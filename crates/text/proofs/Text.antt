@@ -4,10 +4,17 @@ use mathlib.Core.List.{List, [], ◌∷◌, ◌++◌, append_assoc, append-nil}
 use Prim.Native.Nat.{ℕ, zero, suc, ◌+◌, ◌-◌, ◌*◌, ◌/◌, ◌%◌, ◌^◌, ◌≤◌, ◌<◌}
 use native.Mathlib.Omega.{arith}
 use native.Mathlib.Numerals.{add-one}
+use native.Mathlib.Decide.{dec_lt}
+use Rattle.std.proofs.lemmas.List.{drop-drop}
 use lib.Dec.{ltb}
 use lib.ListN.{length, take, drop, get_or, set, length-append, length-take}
 use lib.Seq.{sets, sets-eq, length-sets, take-append_seam, take-suc}
 use borrow.Author.Tests.{ltb-true, ltb-false, lt-ltb, le-ltb}
+use borrow.Rule.Slice.PartMut.{put_mid}
+use Rattle.std.specs.Prelude.{min}
+use Rattle.std.proofs.Math.Nat.{min-eq_left, min-eq_right}
+use Rattle.std.specs.Fmt.{decimal as written_decimal}
+use Rattle.std.proofs.lemmas.Fmt.{decimal_from_appends, length-decimal-le, length-decimal-le_succ}
 use Rattle.rules.proofs.Tables.{by_test}
 use Rattle.text.specs.Text.{digits, decimal, read_on, after_spaces, flat, at_most, written, behind, Wrote}
 
@@ -36,31 +43,20 @@ pub decimal_more : (n : ℕ) → 10 ≤ n → decimal n ≡ decimal (n / 10) ++ 
 unfolding decimal
 decimal_more n h = digits_more n n h ∙ ap (λ (x : List ℕ). x ++ (48 + n % 10) ∷ []) (digits_enough n (suc (n / 10)) (n / 10) (omega arith) (omega arith))
 
--- two digits, and three or four of which the last two stand apart
-pub decimal_two : (n : ℕ) → 10 ≤ n → n < 100 → ((48 + n / 10) ∷ []) ++ (48 + n % 10) ∷ [] ≡ decimal n
-decimal_two n h g = rw (decimal_more n h, decimal_one (n / 10) (omega arith))
+-- it is what the library writes
+pub decimal_is : (n : ℕ) → n < 2 ^ 64 → written_decimal n ≡ decimal n
+unfolding decimal
+decimal_is n h = sym (decimal_from_appends digits (record { one = digits_one; more = digits_more }) (suc n) n h (omega (arith, length-decimal-le_succ n h)))
 
-pub decimal_four : (n : ℕ) → 100 ≤ n → (decimal (n / 100) ++ (48 + n / 10 % 10) ∷ []) ++ (48 + n % 10) ∷ [] ≡ decimal n
-decimal_four n h =
-    let e : n / 10 / 10 ≡ n / 100 = omega arith in
-    rw (decimal_more n (omega arith), decimal_more (n / 10) (omega arith), e)
+module _ (n : ℕ) {l : List ℕ} (e : l ≡ written_decimal n) where
+  pub four_digits : n < 10000 → length l ≤ 4
+  four_digits h = omega (arith, ap length e, length-decimal-le 4 n (omega arith) h (omega arith))
 
--- ten, a hundred, a thousand: the least number of k + 2 digits
-tens : ℕ → ℕ
-tens zero = 10
-tens (suc k) = 10 * tens k
-
-decimal_length : (k n : ℕ) → n < tens k → length (decimal n) ≤ k + 1
-unfolding tens
-decimal_length zero n h = rw (decimal_one n h) (omega arith)
-decimal_length (suc k) n h = by_test (ltb n 10)
-    (λ t. rw (decimal_one n (ltb-true n 10 t)) (omega arith))
-    (λ t. rw (decimal_more n (ltb-false n 10 t), length-append (decimal (n / 10)) ((48 + n % 10) ∷ [])) (omega (arith, decimal_length k (n / 10) (omega arith))))
-
--- a number of 64 bits has 20 digits at most, and all but its last are 19
-pub higher_length : (n : ℕ) → n < 2 ^ 64 → length (decimal (n / 10)) ≤ 19
-unfolding tens
-higher_length n h = decimal_length 18 (n / 10) (omega arith)
+  pub room_left : (end : ℕ) → length l ≤ 20 → (n < 10000 → end + 4 ≤ 65536) × (10000 ≤ n → end + 20 ≤ 65536) → end + length l ≤ 65536
+  room_left end short room = elim (dec_lt n 10000) [
+    | yes h ↦ omega (arith, room.0 h, four_digits h)
+    | no f ↦ omega (arith, room.1 (omega (arith, f)))
+  ]
 
 -- no leading zero
 digits_lead : (d n : ℕ) → n < d → 0 < n → (z : ℕ) → 48 < get_or (digits d n) 0 z
@@ -114,6 +110,51 @@ pub flat_next : (f : ℕ → List ℕ) (k : ℕ) → flat k f ++ f k ≡ flat (k
 unfolding flat
 flat_next f k = rw add-one
 
+-- ---- behind what stands on a page: nothing, texts one after another that are one text, and one line more
+module _ (page : List ℕ) where
+  pub added_none : {xs : List ℕ} → [] ≡ xs → page ≡ page ++ xs
+  added_none e = sym (append-nil page) ∙ ap (λ (l : List ℕ). page ++ l) e
+
+  pub added_as : {xs ys new : List ℕ} → xs ≡ ys → new ≡ page ++ xs → new ≡ page ++ ys
+  added_as e a = a ∙ ap (λ (l : List ℕ). page ++ l) e
+
+  added_then : (xs ys : List ℕ) {new last : List ℕ} → new ≡ page ++ xs → last ≡ new ++ ys → last ≡ page ++ (xs ++ ys)
+  added_then xs ys a b = b ∙ ap (λ (l : List ℕ). l ++ ys) a ∙ append_assoc page xs ys
+
+  pub page_none : (f : ℕ → List ℕ) → page ≡ page ++ flat 0 f
+  page_none f = added_none (no_lines f)
+
+  pub page_next : (f : ℕ → List ℕ) (k : ℕ) {new last : List ℕ} → new ≡ page ++ flat k f → last ≡ new ++ f k → last ≡ page ++ flat (k + 1) f
+  page_next f k x y = added_as (flat_next f k) (added_then (flat k f) (f k) x y)
+
+  module _ (a b : List ℕ) {p q : List ℕ} (x : p ≡ page ++ a) (y : q ≡ p ++ b) where
+    pub added_two : {l : List ℕ} → a ++ b ≡ l → q ≡ page ++ l
+    added_two e = added_as e (added_then a b x y)
+
+    module _ (c : List ℕ) {r : List ℕ} (z : r ≡ q ++ c) where
+      three : r ≡ page ++ ((a ++ b) ++ c)
+      three = added_then (a ++ b) c (added_then a b x y) z
+
+      pub added_three : {l : List ℕ} → (a ++ b) ++ c ≡ l → r ≡ page ++ l
+      added_three e = added_as e three
+
+      module _ (d : List ℕ) {s : List ℕ} (u : s ≡ r ++ d) where
+        four : s ≡ page ++ (((a ++ b) ++ c) ++ d)
+        four = added_then ((a ++ b) ++ c) d three u
+
+        pub added_four : {l : List ℕ} → ((a ++ b) ++ c) ++ d ≡ l → s ≡ page ++ l
+        added_four e = added_as e four
+
+        module _ (f : List ℕ) {t : List ℕ} (v : t ≡ s ++ f) where
+          five : t ≡ page ++ ((((a ++ b) ++ c) ++ d) ++ f)
+          five = added_then (((a ++ b) ++ c) ++ d) f four v
+
+          pub added_five : {l : List ℕ} → (((a ++ b) ++ c) ++ d) ++ f ≡ l → t ≡ page ++ l
+          added_five e = added_as e five
+
+          pub added_six : (g : List ℕ) {w l : List ℕ} → w ≡ t ++ g → ((((a ++ b) ++ c) ++ d) ++ f) ++ g ≡ l → w ≡ page ++ l
+          added_six g k e = added_as e (added_then ((((a ++ b) ++ c) ++ d) ++ f) g five k)
+
 -- one letter more of a word
 pub take_next : (l : List ℕ) (i : ℕ) → i < length l → take (i + 1) l ≡ take i l ++ get_or l i 0 ∷ []
 take_next l i h = rw add-one (take-suc l i 0 h)
@@ -126,6 +167,11 @@ at_most_below top n h = rw (lt-ltb n top h)
 pub at_most_top : (top n : ℕ) → top ≤ n → top ≡ at_most top n
 unfolding at_most
 at_most_top top n h = rw (le-ltb n top h)
+
+pub at_most_min : (top n : ℕ) → min n top ≡ at_most top n
+at_most_min top n = by_test (ltb n top)
+    (λ t. min-eq_left (omega (arith, ltb-true n top t)) ∙ at_most_below top n (ltb-true n top t))
+    (λ t. min-eq_right (ltb-false n top t) ∙ at_most_top top n (ltb-false n top t))
 
 pub at_most_is : (top : ℕ) {k n w m : ℕ} → k ≡ n → n ≡ at_most top w → w ≡ m → k ≡ at_most top m
 at_most_is top d e f = d ∙ e ∙ ap (at_most top) f
@@ -206,6 +252,15 @@ behind_put room bytes n {buffer} {after} {q} {end} e w = rw (sym e) w.text
 
 pub fits : (room n : ℕ) (q bytes : List ℕ) → n < room → q ≡ take (room - n) bytes → n + length q ≤ room
 fits room n q bytes h e = omega (arith, ap length e, length-take (room - n) bytes)
+
+-- a part of the buffer was written to
+pub part_put : (room : ℕ) (buffer bytes : List ℕ) (n : ℕ) {q after : List ℕ} → length buffer ≡ room → n < room → q ≡ take (room - n) bytes → after ≡ q
+    → put_mid n (n + length q - n) buffer after ≡ behind room buffer n bytes
+unfolding behind
+part_put room buffer bytes n {q} {after} size h e f =
+    let few : n + length q ≤ length buffer = omega (arith, ap length e, length-take (room - n) bytes, size) in
+    let k : n + length q - n ≡ length q = omega arith in
+    rw (f, k, ← e) (rw (written_parts buffer n q few) (rw (drop-drop (length q) n buffer) (sym (append_assoc (take n buffer) q _))))
 
 -- put at the start, the bytes are the start
 pub wrote_start : (old bytes new : List ℕ) (end : ℕ) → Wrote old 0 bytes new end → end ≤ length old → take end new ≡ bytes

@@ -1,15 +1,9 @@
 -- Text as a list of bytes: letters, a number in decimal, words parted by spaces, lines one after another; and bytes put into a lent buffer
 -- at a place.
 use Rattle.std.specs.Prelude.{ℕ, zero, suc, ◌+◌, ◌-◌, ◌*◌, ◌/◌, ◌%◌, ◌≡◌, true, false, List, [], ◌∷◌, ◌++◌, ltb, length, take}
-use Prim.Native.Char.{code}
-use Prim.Native.String as Text
 use Rattle.std.proofs.lemmas.List.Edits.{sets}
+pub use Rattle.rules.specs.Letters.{bytes}
 use Rattle.rules.specs.Tables.{pick}
-
--- ---- letters
-abbrev pub bytes : Text.String → List ℕ
-bytes Text.[] = []
-bytes (Text.◌∷◌ c s) = code c ∷ bytes s
 
 -- ---- a number in decimal
 -- the digits of n, highest first, without leading zeros; d is how many there may be

@@ -1,21 +1,14 @@
 -- Totals: one more, none more, and tables of totals of which one place is written. Assumes nothing.
-use mathlib.Core.Path.{◌≡◌, refl, sym, ap, ◌∙◌}
-use mathlib.Core.Logic.{◌≢◌}
-use mathlib.Core.Bool.{Bool, true, false, ◌&&◌}
-use mathlib.Core.List.{List}
-use Prim.Native.Nat.{ℕ, zero, suc, ◌+◌, ◌-◌, ◌≤◌, ◌<◌}
-use native.Mathlib.Omega.{arith}
-use native.Mathlib.Numerals.{add-one}
+use Rattle.std.proofs.Common.{◌≡◌, refl, sym, ap, ◌∙◌, ◌≢◌, Bool, true, false, ◌&&◌, List, [], ℕ, zero, suc, ◌+◌, ◌-◌, ◌≤◌, ◌<◌, arith, add-one, eqb, ltb, length, get_or, set, length-set, ext_get_or, get_or-set_same, get_or-set_other, eq-eqb, ne_eqb, ltb-true, ltb-false, lt-ltb, le-ltb}
 use native.Mathlib.Decide.{ℕ_discrete}
-use lib.Dec.{eqb, ltb}
-use lib.ListN.{length, get_or, set, length-set}
-use lib.Seq.{ext_get_or, get_or-set_same, get_or-set_other}
-use borrow.Author.Tests.{eq-eqb, ne_eqb, ltb-true, ltb-false, lt-ltb, le-ltb}
+use Rattle.std.proofs.lemmas.List.{get_or_default}
+use Rattle.rules.specs.declared.Answer.TheVariants.{Done}
+use Rattle.rules.proofs.Numbers.{answer_back}
 use Rattle.rules.specs.declared.Ring.{Ring}
 use Rattle.rules.specs.Tables.{pick, rows, sum, count_of}
 use Rattle.rules.proofs.Tables.{by_test, rows_length, rows_at, rows_ext, rows_self}
 use Rattle.rules.specs.Lists.{no_ring}
-use Rattle.rules.specs.Answers.{number, done}
+use Rattle.rules.specs.Answers.{number, done, answer_of}
 use Rattle.rules.specs.Board.{counts, tally_of, rings_of_length}
 use Rattle.text.specs.Text.{at_most}
 use Rattle.text.proofs.Text.{at_most_below, at_most_top}
@@ -109,6 +102,10 @@ pub past_more_at : (t : List ℕ) (i : ℕ) → length t ≡ 17 → 17 ≤ i →
 past_more_at t i e h = none_more_at t e ∙ rows_ext 17 _ _ (λ k l. ap (λ (b : Bool). more (get_or t k 0) (pick b 1 0)) (sym (ne_eqb k i (λ z. omega (arith, l, h, z)))))
 
 -- ---- recorded rings by their length
+-- a place of a board's table of rings, read with an empty record for what is past its end
+pub ring_read : (rings : List Ring) (s : ℕ) → length rings ≡ 16 → s < 16 → (get_or rings s (record { processes = []; count = 0 })).count ≡ (get_or rings s no_ring).count
+ring_read rings s e h = ap (λ (r : Ring). r.count) (get_or_default rings s (record { processes = []; count = 0 }) no_ring (omega (arith, e, h)))
+
 -- those of length l in the first s places
 abbrev pub within : List Ring → ℕ → ℕ → ℕ
 within rings s l = count_of s (λ k. counts rings k && eqb l (get_or rings k no_ring).count)
@@ -117,16 +114,30 @@ pub none_within : (t : List ℕ) (rings : List Ring) → length t ≡ 17 → t �
 unfolding sum
 none_within t rings e = none_more_at t e
 
--- the ring at place s counts at place i of the table, or nowhere
-pub one_within : (t next : List ℕ) (rings : List Ring) (s i : ℕ) → i ≡ pick (counts rings s) (get_or rings s no_ring).count 17
-    → next ≡ rows 17 (λ l. more (get_or t l 0) (within rings s l))
-    → rows 17 (λ l. more (get_or next l 0) (at i l)) ≡ rows 17 (λ l. more (get_or t l 0) (within rings (s + 1) l))
-unfolding sum
-one_within t next rings s i z e = rows_ext 17 _ _ (λ l h.
-    ap (λ (x : ℕ). more x (at i l)) (ap (λ (x : List ℕ). get_or x l 0) e ∙ rows_at 17 _ l 0 h)
-    ∙ more_twice (get_or t l 0) (within rings s l) (at i l)
-    ∙ ap (λ (x : ℕ). more (get_or t l 0) (within rings s l + x)) (ap (λ (x : ℕ). at x l) z ∙ by_test (counts rings s) (λ c. rw c) (λ c. rw (c, ne_eqb l 17 (λ y. omega (arith, h, y)))))
-    ∙ ap (λ (x : ℕ). more (get_or t l 0) (within rings x l)) (sym (add-one s)))
+-- the ring at place s, of length i, counts at its length, or nowhere
+module _ (t next : List ℕ) (rings : List Ring) (s : ℕ) (e : next ≡ rows 17 (λ l. more (get_or t l 0) (within rings s l))) {i : ℕ} (is : i ≡ (get_or rings s no_ring).count) where
+  pub ring_counts : 0 < i → rows 17 (λ l. more (get_or next l 0) (at i l)) ≡ rows 17 (λ l. more (get_or t l 0) (within rings (s + 1) l))
+  unfolding sum
+  ring_counts c =
+      let some : counts rings s ≡ true = ap (ltb 0) (sym is) ∙ lt-ltb 0 i c in
+      rows_ext 17 _ _ (λ l h.
+      ap (λ (x : ℕ). more x (at i l)) (ap (λ (x : List ℕ). get_or x l 0) e ∙ rows_at 17 _ l 0 h)
+      ∙ more_twice (get_or t l 0) (within rings s l) (at i l)
+      ∙ ap (λ (x : ℕ). more (get_or t l 0) (within rings s l + x)) (rw (some, is))
+      ∙ ap (λ (x : ℕ). more (get_or t l 0) (within rings x l)) (sym (add-one s)))
+
+  pub no_ring_counts : i ≤ 0 → next ≡ rows 17 (λ l. more (get_or t l 0) (within rings (s + 1) l))
+  unfolding sum
+  no_ring_counts c =
+      let none : counts rings s ≡ false = ap (ltb 0) (sym is) ∙ le-ltb 0 i c in
+      e ∙ rows_ext 17 _ _ (λ l h. ap (more (get_or t l 0)) (rw none (omega arith)) ∙ ap (λ (x : ℕ). more (get_or t l 0) (within rings x l)) (sym (add-one s)))
+
+-- one more where a number is not zero
+pub one_more_some : (t n : ℕ) → 0 < n → more t 1 ≡ more t (pick (ltb 0 n) 1 0)
+one_more_some t n h = rw (lt-ltb 0 n h)
+
+pub none_more_none : (t n : ℕ) → n ≤ 0 → t ≡ more t (pick (ltb 0 n) 1 0)
+none_more_none t n h = rw (le-ltb 0 n h) (none_more t)
 
 -- ---- all totals
 abbrev pub made : ℕ → ℕ → ℕ → List ℕ → ℕ → List ℕ → Totals
@@ -136,20 +147,18 @@ pub made_alike : {a b c d e f g h : ℕ} {k l m n : List ℕ} → a ≡ b → c 
 made_alike p q r s t u i = made (p i) (q i) (r i) (s i) (t i) (u i)
 
 -- a sheet that ran, and one that was refused
-pub noted_ran : (t : Totals) (r : Came) → number r.answer ≡ 0
+pub noted_ran : (t : Totals) (r : Came) → r.answer ≡ Done
     → plus t 1 0 (λ n. 0) (pick (ltb 0 (tally_of r.rings)) 1 0) (rings_of_length r.rings) ≡ noted t r
 unfolding noted
-noted_ran t r e =
-    let d : done r.answer ≡ true = eq-eqb (number r.answer) 0 e in
-    rw d (made_alike refl refl refl (rows_ext 17 _ _ (λ n h. ap (more (get_or t.refused_with n 0)) (either_way (eqb n (number r.answer))))) refl refl)
+noted_ran t r e = rw e (made_alike refl refl refl (rows_ext 17 _ _ (λ n h. ap (more (get_or t.refused_with n 0)) (either_way (eqb n 0)))) refl refl)
   where
     either_way : (b : Bool) → ◌≡◌ {A = ℕ} 0 (pick b 0 0)
     either_way true = refl
     either_way false = refl
 
-pub noted_refused : (t : Totals) (r : Came) (code : ℕ) → code ≡ number r.answer → (code ≡ 0 → ⊥)
-    → plus t 0 1 (λ n. pick (eqb n code) 1 0) 0 (λ l. 0) ≡ noted t r
-unfolding noted
-noted_refused t r code e z =
-    let d : done r.answer ≡ false = ne_eqb (number r.answer) 0 (λ y. z (e ∙ y)) in
-    rw (d, e)
+pub noted_refused : (t : Totals) (r : Came) → (r.answer ≡ Done → ⊥)
+    → plus t 0 1 (λ n. pick (eqb n (number r.answer)) 1 0) 0 (λ l. 0) ≡ noted t r
+unfolding noted answer_of
+noted_refused t r z =
+    let d : done r.answer ≡ false = ne_eqb (number r.answer) 0 (λ y. z (sym (answer_back r.answer) ∙ ap answer_of y)) in
+    rw d

@@ -1,28 +1,20 @@
--- Laws of a row of homes that is filled place by place. Assumes nothing.
-use mathlib.Core.Path.{◌≡◌, sym, ◌∙◌}
-use mathlib.Core.List.{List}
-use Prim.Native.Nat.{ℕ, ◌+◌, ◌≤◌, ◌<◌}
-use native.Mathlib.Omega.{arith}
-use native.Mathlib.Decide.{ℕ_discrete}
-use lib.ListN.{length, get_or, set, length-set}
-use lib.Seq.{ext_get_or, get_or-set_same, get_or-set_other}
+-- A row that is made place by place is the row of the function that each place has. Assumes nothing.
+use Rattle.std.proofs.Common.{◌≡◌, sym, subst, ◌∙◌, List, ℕ, zero, suc, ◌+◌, ◌<◌, arith, get_or, ext_get_or}
+use Rattle.std.specs.Array.{IsFromFnResult, IsFromFnResultFrom}
+use denote.Param.Members.{Mut, Called}
+use Rattle.rules.specs.Tables.{rows}
 use Rattle.rules.proofs.Tables.{rows_length, rows_at}
-use Rattle.typed.specs.Homes.{number_at, homes}
 
-module _ (row : List ℕ) (others : ℕ) where
-  -- the first i places are filled
-  abbrev pub Filled : List ℕ → ℕ → Type 0
-  Filled r i = (length r ≡ 16) × ((k : ℕ) → k < i → get_or r k 0 ≡ number_at row (3 + others + k))
+-- `array::from_fn` with a closure that stays as it is and gives a function of the place
+module _ {F : Type 0} (g : Mut F (ℕ × Unit {0}) ℕ) (f : F) (h : ℕ → ℕ) (gives : (i y : ℕ) (q : F) → Called g f (i, tt) y q → (q ≡ f) × (y ≡ h i)) where
+  made_from : (ys : List ℕ) (i n : ℕ) → IsFromFnResultFrom g f ys i n → (k j : ℕ) → i + k ≡ j → k < n → get_or ys j 0 ≡ h j
+  made_from ys i zero r k j e l = absurd (omega arith)
+  made_from ys i (suc n) (q, y, there, called, rest) zero j e l =
+      subst (λ (m : ℕ). get_or ys m 0 ≡ h m) (omega (arith, e)) (there.1 0 ∙ (gives i y q called).1)
+  made_from ys i (suc n) (q, y, there, called, rest) (suc k) j e l =
+      made_from ys (i + 1) n (subst (λ (x : F). IsFromFnResultFrom g x ys (i + 1) n) (gives i y q called).0 rest) k j (omega (arith, e)) (omega (arith, l))
 
-  pub filled_next : (r : List ℕ) (i x : ℕ) → i < 16 → Filled r i → x ≡ number_at row (3 + others + i) → Filled (set r i x) (i + 1)
-  filled_next r i x h f e = (
-    length-set r i x ∙ f.0,
-    λ k l. elim (ℕ_discrete k i) [
-      | yes z ↦ rw z (get_or-set_same r i x 0 (omega (arith, f.0)) ∙ e)
-      | no n ↦ get_or-set_other r i k x 0 n ∙ f.1 k (omega (arith, n))
-    ],
-  )
-
-  pub filled_all : (r : List ℕ) (i : ℕ) → 16 ≤ i → Filled r i → r ≡ homes row others
-  unfolding homes
-  filled_all r i h f = ext_get_or 0 r (homes row others) (f.0 ∙ sym (rows_length 16 _)) (λ k l. f.1 k (omega (arith, f.0)) ∙ sym (rows_at 16 _ k 0 (omega (arith, f.0))))
+  pub made_row : (ys : List ℕ) (n : ℕ) → IsFromFnResult g f ys n → ys ≡ rows n h
+  made_row ys n m =
+      ext_get_or 0 ys (rows n h) (m.long ∙ sym (rows_length n h))
+      (λ k l. made_from ys 0 n m.each k k (omega arith) (omega (arith, m.long)) ∙ sym (rows_at n h k 0 (omega (arith, m.long))))

@@ -1,20 +1,14 @@
--- Laws of names: a word and a name are compared byte by byte, and names one after another. Assumes nothing.
-use mathlib.Core.Path.{◌≡◌, refl, ap, ◌∙◌}
-use mathlib.Core.Bool.{true, false}
-use mathlib.Core.List.{List, [], ◌∷◌}
-use Prim.Native.Nat.{ℕ, zero, suc, ◌+◌, ◌≤◌, ◌<◌}
-use native.Mathlib.Numerals.{add-one}
-use native.Mathlib.Omega.{arith}
-use lib.Dec.{eqb}
-use lib.ListN.{length, get_or, drop, drop_of_length-le, get_or-eq_default}
-use lib.Seq.{drop-cons}
+-- Laws of names: a word is compared with each name of a table, and each thing that is named has two names one after another.
+-- Assumes nothing.
+use Rattle.std.proofs.Common.{◌≡◌, refl, ap, ◌∙◌, List, [], ◌∷◌, ℕ, zero, suc, ◌/◌, ◌<◌, true, false, arith, eqb, length, get_or, drop, map, Bor, Option, None, unwrap_or, le-ltb}
+use Rattle.std.specs.Str.{str_eq_ignore_ascii_case, bytes_eq}
+use Rattle.std.specs.Char.{to_ascii_lowercase}
 use Rattle.rules.proofs.Tables.{by_test}
-use Rattle.typed.specs.declared.Verb.{Verb}
-use Rattle.typed.specs.declared.Verb.TheVariants.{Unknown}
-use Rattle.typed.specs.declared.words.Span.{Span}
-use Rattle.typed.specs.Words.{words}
-use Rattle.typed.specs.Spans.{part, NextWord}
-use Rattle.typed.specs.Names.{lower, alike, place_in, verbs, verb_at}
+use Rattle.typed.specs.Names.{lower, alike, named, place_in}
+use Rattle.typed.specs.Numbers.{mode_or}
+use Rattle.std.specs.List.{slice_get}
+use Rattle.std.proofs.lemmas.Option.{slice_get_past, unwrap_or-slice_get}
+use Rattle.typed.proofs.Decimals.{lower_is}
 
 -- inside a list the default does not matter
 pub get_d_any : {A : Type 0} (l : List A) (i : ℕ) (d e : A) → i < length l → get_or l i d ≡ get_or l i e
@@ -22,29 +16,20 @@ get_d_any [] i d e h = absurd (omega arith)
 get_d_any (x ∷ l) zero d e h = refl
 get_d_any (x ∷ l) (suc i) d e h = get_d_any l i d e (omega arith)
 
--- ---- a word and a name
-pub alike_sizes : (w n : List ℕ) → (length w ≡ length n → ⊥) → alike w n ≡ false
+-- ---- a word and a name in lower case
+alike_to : (w n : List ℕ) → bytes_eq (map to_ascii_lowercase w) n ≡ alike w n
 unfolding alike
-alike_sizes [] [] f = absurd (f refl)
-alike_sizes [] (x ∷ n) f = refl
-alike_sizes (c ∷ w) [] f = refl
-alike_sizes (c ∷ w) (x ∷ n) f = by_test (eqb (lower c) x) (λ e. rw (alike, e) (alike_sizes w n (λ z. f (ap suc z)))) (λ e. rw (alike, e))
+alike_to [] [] = refl
+alike_to [] (x ∷ n) = refl
+alike_to (c ∷ w) [] = refl
+alike_to (c ∷ w) (x ∷ n) = by_test (eqb (lower c) x) (λ e. rw (lower_is c, e) (alike_to w n)) (λ e. rw (lower_is c, e))
 
-pub alike_goes : (w n : List ℕ) (i : ℕ) → i < length w → i < length n → eqb (lower (get_or w i 0)) (get_or n i 0) ≡ true
-    → alike (drop i w) (drop i n) ≡ alike (drop (i + 1) w) (drop (i + 1) n)
-unfolding alike
-alike_goes w n i h l e = rw (add-one, drop-cons w i 0 h, drop-cons n i 0 l, e)
+abbrev Low : List ℕ → Type 0
+Low n = map to_ascii_lowercase n ≡ n
 
-pub alike_stops : (w n : List ℕ) (i : ℕ) → i < length w → i < length n → eqb (lower (get_or w i 0)) (get_or n i 0) ≡ false
-    → alike (drop i w) (drop i n) ≡ false
-unfolding alike
-alike_stops w n i h l e = rw (drop-cons w i 0 h, drop-cons n i 0 l, e)
+pub alike_is : (w n : List ℕ) → Low n → str_eq_ignore_ascii_case w n ≡ alike w n
+alike_is w n e = ap (bytes_eq (map to_ascii_lowercase w)) e ∙ alike_to w n
 
-pub alike_ends : (w n : List ℕ) (i : ℕ) → length w ≤ i → length n ≤ i → alike (drop i w) (drop i n) ≡ true
-unfolding alike
-alike_ends w n i h l = rw (drop_of_length-le w h, drop_of_length-le n l)
-
--- ---- a word among names
 place_here : (w n : List ℕ) (ns : List (List ℕ)) → alike w n ≡ true → place_in w (n ∷ ns) ≡ 0
 unfolding place_in
 place_here w n ns e = rw (place_in, e)
@@ -53,24 +38,44 @@ place_later : (w n : List ℕ) (ns : List (List ℕ)) → alike w n ≡ false �
 unfolding place_in
 place_later w n ns e = rw (place_in, e)
 
-place_none : (w : List ℕ) → place_in w [] ≡ 0
-unfolding place_in
-place_none w = refl
+two_more : (p : ℕ) → suc (suc p) / 2 ≡ suc (p / 2)
+two_more p = omega arith
 
--- ---- a word among the names of a table, from a place of the table on
-module _ (w s : List ℕ) (at : ℕ) (n : Span) (next : NextWord s at n) where
-  pub nowhere : length s ≤ n.start → place_in w (words (drop at s)) ≡ 0
-  nowhere h = ap (place_in w) (next.none h) ∙ place_none w
+-- ---- a table of names: each row has a long and a short name, and what they stand for
+module _ (A : Type 0) where
+  abbrev Row : Type 0
+  Row = Bor (List ℕ) × Bor (List ℕ) × A
 
-  pub here : n.start < length s → alike w (part s n.start n.end) ≡ true → place_in w (words (drop at s)) ≡ 0
-  here h e = ap (place_in w) (next.first h) ∙ place_here w _ _ e
+  abbrev pub names_of : List Row → List (List ℕ)
+  names_of [] = []
+  names_of (n ∷ t) = n.0.now ∷ n.1.now ∷ names_of t
 
-  pub later : n.start < length s → alike w (part s n.start n.end) ≡ false → place_in w (words (drop at s)) ≡ suc (place_in w (words (drop n.end s)))
-  later h e = ap (place_in w) (next.first h) ∙ place_later w _ _ e
+  abbrev pub means : List Row → List A
+  means t = map (λ n. n.2) t
 
--- ---- the verbs in the order of their names
-pub verb_there : (n : ℕ) (d : Verb) → n < 15 → get_or verbs n d ≡ verb_at n
-verb_there n d h = get_d_any verbs n d Unknown h
+  -- the names are written in lower case
+  pub found_name : (w : List ℕ) (t : List Row) → map (map to_ascii_lowercase) (names_of t) ≡ names_of t → named w t ≡ slice_get (means t) (place_in w (names_of t) / 2)
+  unfolding place_in named
+  found_name w [] l = refl
+  found_name w (n ∷ t) l =
+      let a : str_eq_ignore_ascii_case w n.0.now ≡ alike w n.0.now = alike_is w n.0.now (ap (λ (ns : List (List ℕ)). get_or ns 0 []) l) in
+      let b : str_eq_ignore_ascii_case w n.1.now ≡ alike w n.1.now = alike_is w n.1.now (ap (λ (ns : List (List ℕ)). get_or ns 1 []) l) in
+      by_test (alike w n.0.now)
+      (λ e. rw (a, e, place_here w n.0.now (n.1.now ∷ names_of t) e))
+      (λ e. by_test (alike w n.1.now)
+      (λ f. rw (a, b, e, f, place_later w n.0.now (n.1.now ∷ names_of t) e, place_here w n.1.now (names_of t) f))
+      (λ f. rw (a, b, e, f, place_later w n.0.now (n.1.now ∷ names_of t) e, place_later w n.1.now (names_of t) f, two_more (place_in w (names_of t)))
+      (found_name w t (ap (λ (ns : List (List ℕ)). drop 2 ns) l))))
 
-pub verb_past : (n : ℕ) → 15 ≤ n → verb_at n ≡ Unknown
-verb_past n h = get_or-eq_default verbs Unknown h
+  pub found_or : (w : List ℕ) (t : List Row) (d r : A) (o : Option A) → o ≡ named w t → r ≡ unwrap_or o d → map (map to_ascii_lowercase) (names_of t) ≡ names_of t
+      → r ≡ get_or (means t) (place_in w (names_of t) / 2) d
+  found_or w t d r o e f l = f ∙ ap (λ (x : Option A). unwrap_or x d) (e ∙ found_name w t l) ∙ unwrap_or-slice_get (means t) (place_in w (names_of t) / 2) d
+
+-- ---- the modes
+pub mode_place : (p : ℕ) → slice_get (0 ∷ 1 ∷ []) (p / 2) ≡ mode_or p None
+unfolding mode_or
+mode_place zero = refl
+mode_place (suc zero) = refl
+mode_place (suc (suc zero)) = refl
+mode_place (suc (suc (suc zero))) = refl
+mode_place (suc (suc (suc (suc p)))) = rw (le-ltb (suc (suc (suc (suc p)))) 4 (omega arith)) (slice_get_past (0 ∷ 1 ∷ []) (suc (suc (suc (suc p))) / 2) (omega arith))

@@ -1,20 +1,12 @@
 -- Laws of the words of a line: a run ends where its bytes do, and the words of a line are its first word and the words after it; and of the
 -- place of its comment.
 -- Each is an induction on the line. Assumes nothing.
-use mathlib.Core.Path.{◌≡◌, refl, sym, ap, ◌∙◌}
-use mathlib.Core.Bool.{Bool, true, false, not}
-use mathlib.Core.List.{List, [], ◌∷◌}
-use Prim.Native.Nat.{ℕ, suc, ◌+◌, ◌-◌, ◌≤◌, ◌<◌}
-use mathlib.Core.Logic.{◌≢◌}
-use native.Mathlib.Numerals.{add-one}
-use native.Mathlib.Omega.{arith}
-use lib.ListN.{length, get_or, drop, length-drop, drop_of_length-le}
-use lib.Seq.{drop-cons, drop-drop}
-use lib.Dec.{eqb}
-use borrow.Author.Tests.{eq-eqb, ne_eqb}
+use Rattle.std.proofs.Common.{◌≡◌, refl, sym, ap, ◌∙◌, Bool, true, false, not, List, [], ◌∷◌, ℕ, suc, ◌-◌, ◌≤◌, ◌<◌, arith, length, drop, take, drop_of_length-le, eqb, Option, Some, None, unwrap_or, ltb, subst, ltb-true, ltb-false}
+use Rattle.std.specs.List.{position_or_len, position}
+use Rattle.std.proofs.lemmas.List.Sums.{prefix_len-le-length}
+use Rattle.std.proofs.lemmas.List.{take_all, length-drop}
 use Rattle.rules.proofs.Tables.{by_test}
 use Rattle.typed.specs.Words.{comment_at, blank, of_sort, run, word_at, words_from, words}
-use Rattle.typed.specs.Spans.{NextWord}
 
 -- ---- one byte
 sort_blank : (c : ℕ) (t : Bool) → blank c ≡ t → of_sort true c ≡ t
@@ -44,17 +36,6 @@ words_within c s e = rw (words_from, e)
 words_start : (c : ℕ) (s : List ℕ) → blank c ≡ false → words_from false (c ∷ s) ≡ word_at (c ∷ s) ∷ words_from true s
 unfolding words_from
 words_start c s e = rw (words_from, e)
-
--- ---- a run, from a place of the line on
-pub run_none : (b : Bool) (s : List ℕ) (at : ℕ) → length s ≤ at → run b (drop at s) ≡ 0
-unfolding run
-run_none b s at h = rw (drop_of_length-le s h)
-
-pub run_stops : (b : Bool) (s : List ℕ) (at : ℕ) → at < length s → of_sort b (get_or s at 0) ≡ false → run b (drop at s) ≡ 0
-run_stops b s at h e = rw (drop-cons s at 0 h) (stops b (get_or s at 0) (drop (suc at) s) e)
-
-pub run_goes : (b : Bool) (s : List ℕ) (at : ℕ) → at < length s → of_sort b (get_or s at 0) ≡ true → run b (drop at s) ≡ suc (run b (drop (at + 1) s))
-run_goes b s at h e = rw (add-one, drop-cons s at 0 h) (goes b (get_or s at 0) (drop (suc at) s) e)
 
 pub run_le : (b : Bool) (s : List ℕ) → run b s ≤ length s
 unfolding run
@@ -101,42 +82,83 @@ words_none : (s : List ℕ) → length s ≤ run true s → words s ≡ []
 unfolding words_from
 words_none s h = words_skip s ∙ rw (drop_of_length-le s h)
 
--- ---- the next word from a place on
-pub next_word : (s : List ℕ) (at a e : ℕ) → at ≤ length s → a ≡ at + run true (drop at s) → e ≡ a + run false (drop a s)
-    → NextWord s at (record { start = a; end = e })
-next_word s at a e h p q =
-    let n : ℕ = length s in
-    let size : length (drop at s) ≡ length s - at = length-drop at s in
-    let size-a : length (drop a s) ≡ length s - a = length-drop a s in
-    let low : run true (drop at s) ≤ length (drop at s) = run_le true (drop at s) in
-    let high : run false (drop a s) ≤ length (drop a s) = run_le false (drop a s) in
-    let there : drop (run true (drop at s)) (drop at s) ≡ drop a s = drop-drop (run true (drop at s)) at s ∙ ap (λ (k : ℕ). drop k s) (sym p) in
-    let starts : a < length s → 0 < run false (drop a s) = λ l. rw there at (word_starts (drop at s) (omega arith)) in
-    let behind : drop (run false (drop a s)) (drop a s) ≡ drop e s = drop-drop (run false (drop a s)) a s ∙ ap (λ (k : ℕ). drop k s) (sym q) in
-    let wide : run false (drop a s) ≡ e - a = omega arith in
-    record {
-      after = omega arith;
-      order = omega arith;
-      inside = omega arith;
-      longer = λ l. omega (arith, starts l);
-      first = λ l. words_skip (drop at s) ∙ ap words there ∙ words_first (drop a s) (starts l) ∙ rw (behind, wide);
-      none = λ l. words_none (drop at s) (omega arith);
-    }
+-- ---- the next word, as it is found: the first byte that is no blank, and the first blank behind it
+run_first : (b : Bool) (p : ℕ → Bool) → ((c : ℕ) → not (p c) ≡ of_sort b c) → (s : List ℕ) → run b s ≡ position_or_len p s
+unfolding run
+run_first b p f [] = refl
+run_first b p f (c ∷ s) =
+    by_test (of_sort b c)
+    (λ e. goes b c s e ∙ ap suc (run_first b p f s) ∙ rw (f c ∙ e) (omega arith))
+    (λ e. stops b c s e ∙ rw (f c ∙ e))
+
+-- where a test passes first, and that it passes nowhere
+module _ (p : ℕ → Bool) (s : List ℕ) where
+  pub found : (k : ℕ) → Some k ≡ position p s → (k ≡ position_or_len p s) × (k < length s)
+  found k e = by_test (ltb (position_or_len p s) (length s))
+      (λ t. let q : Some k ≡ Some (position_or_len p s) = e ∙ rw t in (cc, subst (λ (x : ℕ). x < length s) (cc) (ltb-true _ _ t)))
+      (λ t. let q : Some k ≡ None = e ∙ rw t in absurd (cc))
+
+  pub not_found : None ≡ position p s → length s ≤ position_or_len p s
+  not_found e = by_test (ltb (position_or_len p s) (length s))
+      (λ t. let q : None ≡ Some (position_or_len p s) = e ∙ rw t in absurd (cc))
+      (λ t. ltb-false _ _ t)
+
+  pub or_end : unwrap_or (position p s) (length s) ≡ position_or_len p s
+  or_end = by_test (ltb (position_or_len p s) (length s))
+      (λ t. rw t)
+      (λ t. rw t (omega (arith, ltb-false _ _ t, prefix_len-le-length (λ x. not (p x)) s)))
+
+abbrev Start : List ℕ → ℕ
+Start s = position_or_len (λ c. not (blank c)) s
+
+abbrev End : List ℕ → ℕ
+End s = position_or_len (λ c. blank c) s
+
+start_is : (s : List ℕ) → run true s ≡ Start s
+start_is s = run_first true (λ c. not (blank c)) (λ c. by_test (blank c) (λ e. rw e (sym (sort_blank c true e))) (λ e. rw e (sym (sort_blank c false e)))) s
+
+end_is : (s : List ℕ) → run false s ≡ End s
+end_is s = run_first false (λ c. blank c) (λ c. sym (sort_other c (blank c) refl)) s
+
+pub no_word : (s : List ℕ) → None ≡ position (λ c. not (blank c)) s → words s ≡ []
+no_word s e = words_none s (omega (arith, start_is s, not_found _ s e))
+
+-- the part of a line behind a place, as a slice of it
+pub rest_is : (s : List ℕ) (k : ℕ) → take (length s - k) (drop k s) ≡ drop k s
+rest_is s k = take_all (length s - k) (drop k s) (omega (arith, length-drop k s))
+
+-- the end of what a test passes nowhere before, or of the line
+pub up_to : (p : ℕ → Bool) (s : List ℕ) (o : Option ℕ) (e : ℕ) → o ≡ position p s → e ≡ unwrap_or o (length s) → (e ≡ position_or_len p s) × (e ≤ length s)
+up_to p s o e f h = let q : e ≡ position_or_len p s = h ∙ ap (λ (x : Option ℕ). unwrap_or x (length s)) f ∙ or_end p s in
+    (q, omega (arith, q, prefix_len-le-length (λ c. not (p c)) s))
+
+pub a_word : (s : List ℕ) (k e : ℕ) → Some k ≡ position (λ c. not (blank c)) s → e ≡ End (drop k s) → words s ≡ take e (drop k s) ∷ words (drop e (drop k s))
+a_word s k e f h =
+    let at = found _ s k f in
+    let start : run true s ≡ k = start_is s ∙ sym at.0 in
+    let end : run false (drop k s) ≡ e = end_is (drop k s) ∙ sym h in
+    let some : 0 < run false (drop k s) = subst (λ (n : ℕ). 0 < run false (drop n s)) start (word_starts s (omega (arith, start, at.1))) in
+    words_skip s ∙ ap (λ (n : ℕ). words (drop n s)) start ∙ words_first (drop k s) some ∙ rw end
+
+-- there are no more words than bytes
+words_from_le : (i : Bool) (s : List ℕ) → length (words_from i s) ≤ length s
+unfolding words_from
+words_from_le i [] = omega arith
+words_from_le i (c ∷ s) =
+    by_test (blank c)
+    (λ e. rw (words_blank i c s e) (omega (arith, words_from_le false s)))
+    (λ e. by_test i
+    (λ t. rw (t, words_within c s e) (omega (arith, words_from_le true s)))
+    (λ t. rw (t, words_start c s e) (omega (arith, words_from_le true s))))
+
+pub words_le : (s : List ℕ) → length (words s) ≤ length s
+words_le s = words_from_le false s
 
 -- ---- the comment
-pub comment_here : (s : List ℕ) (at : ℕ) → at < length s → get_or s at 0 ≡ 35 → comment_at (drop at s) ≡ 0
+comment_first : (s : List ℕ) → comment_at s ≡ position_or_len (λ c. eqb c 35) s
 unfolding comment_at
-comment_here s at h e = rw (drop-cons s at 0 h, comment_at, eq-eqb (get_or s at 0) 35 e)
+comment_first [] = refl
+comment_first (c ∷ s) = by_test (eqb c 35) (λ e. rw (comment_at, e)) (λ e. rw (comment_at, e) (omega (arith, comment_first s)))
 
-pub comment_later : (s : List ℕ) (at : ℕ) → at < length s → get_or s at 0 ≢ 35 → comment_at (drop at s) ≡ suc (comment_at (drop (at + 1) s))
-unfolding comment_at
-comment_later s at h e = rw (add-one, drop-cons s at 0 h, comment_at, ne_eqb (get_or s at 0) 35 e)
-
-pub comment_none : (s : List ℕ) (at : ℕ) → length s ≤ at → comment_at (drop at s) ≡ 0
-unfolding comment_at
-comment_none s at h = rw (drop_of_length-le s h)
-
-pub comment_le : (s : List ℕ) → comment_at s ≤ length s
-unfolding comment_at
-comment_le [] = omega arith
-comment_le (c ∷ s) = by_test (eqb c 35) (λ e. rw (comment_at, e) (omega arith)) (λ e. rw (comment_at, e) (omega (arith, comment_le s)))
+pub comment_is : (s : List ℕ) (o : Option ℕ) (k : ℕ) → o ≡ position (λ c. eqb c 35) s → k ≡ unwrap_or o (length s) → (k ≡ comment_at s) × (k ≤ length s)
+comment_is s o k f h = let u = up_to (λ c. eqb c 35) s o k f h in (u.0 ∙ sym (comment_first s), u.1)

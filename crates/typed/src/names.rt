@@ -1,96 +1,85 @@
 // The names of the verbs and of the modes.
-ghost use Rattle.std.specs.Prelude.{◌≡◌};
+ghost use Rattle.std.specs.Prelude.{◌≡◌, None, Some};
+ghost use Rattle.std.specs.Str.{str_eq_ignore_ascii_case};
 ghost use Rattle.typed.specs.Names as Names;
-ghost use Rattle.typed.specs.Words as Words;
+ghost use Rattle.typed.specs.Numbers.{mode_or};
+ghost use Rattle.typed.specs.Words.{words};
 
 use crate::Verb;
-
-// The letter in lower case; any other byte as it is.
-pub fn lower(c: u8) -> u8
-    ensures { result ≡ Names.lower c }
-{
-    if c < b'A' {
-        return c;
-    }
-    if b'Z' < c {
-        return c;
-    }
-    c + 32
-}
+use std::fmt;
 
 // A word is a name, upper and lower case letters alike.
-fn alike(word: &[u8], name: &[u8]) -> bool
-    ensures { result ≡ Names.alike word.now name.now }
+fn is_name(word: &[u8], name: &str) -> bool
+    ensures { result ≡ str_eq_ignore_ascii_case word.now name.now }
 {
-    if word.len() != name.len() {
-        return false;
-    }
-    let mut i = 0;
-    while i < word.len() {
-        if lower(word[i]) != name[i] {
-            return false;
-        }
-        i += 1;
-    }
-    true
+    word.eq_ignore_ascii_case(name.as_bytes())
 }
 
-// The place of a word among the names of a table, which are parted by blanks; their number where it is none of them.
-pub fn place_in(word: &[u8], table: &[u8]) -> usize
-    ensures { result ≡ Names.place_in word.now (Words.words table.now) }
+// What a word stands for among names, each in a long and a short form.
+#[tactic(auto, unfolding(crate::specs::Names::named))]
+fn named<T: Copy>(word: &[u8], names: &[(&str, &str, T)]) -> Option<T>
+    ensures { result ≡ Names.named word.now names.now }
 {
-    let mut at = 0;
-    let mut k = 0;
-    loop {
-        let name = crate::words::next_word(table, at);
-        let start = name.start;
-        let end = name.end;
-        if table.len() <= start {
-            return k;
-        }
-        if alike(word, &table[start..end]) {
-            return k;
-        }
-        at = end;
-        k += 1;
-    }
+    names
+        .iter()
+        .find(|(long, short, _)| is_name(word, long) || is_name(word, short))
+        .map(|(_, _, means)| *means)
 }
 
-// The verbs in the order of their names. Help and quit have two pairs of names.
-fn verb_at(n: usize) -> Verb
-    ensures { result ≡ Names.verb_at n }
-{
-    let verbs = [
-        Verb::Open,
-        Verb::Request,
-        Verb::Release,
-        Verb::Deliver,
-        Verb::Drain,
-        Verb::Follow,
-        Verb::Show,
-        Verb::Messages,
-        Verb::Waits,
-        Verb::Rings,
-        Verb::Undo,
-        Verb::Help,
-        Verb::Help,
-        Verb::Quit,
-        Verb::Quit,
-    ];
-    if n < 15 {
-        return verbs[n];
-    }
-    Verb::Unknown
-}
-
-// The verb that a word names. Each has a long and a short form.
+// The verb that a word names. Help and quit have two pairs of names.
 pub fn verb_of(word: &[u8]) -> Verb
     ensures { result ≡ Names.verb_of word.now }
 {
-    verb_at(
-        place_in(
-            word,
-            b"open o request r release re deliver d drain dr follow f show s messages m waits w rings ri undo u help h ? ? quit q exit e",
-        ) / 2,
+    named(
+        word,
+        &[
+            ("open", "o", Verb::Open),
+            ("request", "r", Verb::Request),
+            ("release", "re", Verb::Release),
+            ("deliver", "d", Verb::Deliver),
+            ("drain", "dr", Verb::Drain),
+            ("follow", "f", Verb::Follow),
+            ("show", "s", Verb::Show),
+            ("messages", "m", Verb::Messages),
+            ("waits", "w", Verb::Waits),
+            ("rings", "ri", Verb::Rings),
+            ("undo", "u", Verb::Undo),
+            ("help", "h", Verb::Help),
+            ("?", "?", Verb::Help),
+            ("quit", "q", Verb::Quit),
+            ("exit", "e", Verb::Quit),
+        ],
     )
+    .unwrap_or(Verb::Unknown)
+}
+
+// The number of the mode that a word names.
+pub fn mode_of(word: &[u8]) -> Option<u16>
+    ensures { result ≡ mode_or (Names.place_in word.now (words Names.mode_names)) None }
+{
+    named(word, &[("shared", "s", 0), ("exclusive", "x", 1)])
+}
+
+// A verb by its long form; one that names no command is 'the command'.
+impl fmt::Display for Verb {
+    ghost output = { λ v. Some (Names.verb_name v) };
+
+    fn fmt<W: fmt::Write>(&self, f: &mut fmt::Formatter<W>) -> fmt::Result {
+        f.write_str(match self {
+            Verb::Open => "open",
+            Verb::Request => "request",
+            Verb::Release => "release",
+            Verb::Deliver => "deliver",
+            Verb::Drain => "drain",
+            Verb::Follow => "follow",
+            Verb::Show => "show",
+            Verb::Messages => "messages",
+            Verb::Waits => "waits",
+            Verb::Rings => "rings",
+            Verb::Undo => "undo",
+            Verb::Help => "help",
+            Verb::Quit => "quit",
+            Verb::Blank | Verb::Unknown => "the command",
+        })
+    }
 }

@@ -1,73 +1,77 @@
-// Where a line's comment begins, and the words of a line, found one after another.
-ghost use Rattle.std.specs.Prelude.{◌≡◌, ◌+◌, ◌≤◌, length, drop};
-ghost use Rattle.typed.specs.Words as Words;
-ghost use Rattle.typed.specs.Spans.{NextWord};
+// What is read of a line, and the words of a line, taken one after another.
+ghost use Rattle.std.specs.Prelude.{◌≡◌, not, eqb, position};
+ghost use Rattle.typed.specs.Words.{uncommented, blank, words};
+ghost use Rattle.std.specs.Iterator.{YieldsFirstRef, item_count};
+ghost use Rattle.typed.specs.Spans.{NextWord, words_left};
 
-// Where a word starts and where it ends.
-#[derive(Clone, Copy)]
-pub struct Span {
-    pub start: usize,
-    pub end: usize,
+// The place of the first `#` of a line, which begins a comment; None where the line has no comment.
+fn comment_at(line: &[u8]) -> Option<usize>
+    ensures { result ≡ position (λ c. eqb c 35) line.now }
+{
+    line.iter().position(|c| *c == b'#')
 }
 
-// The place of the first `#` of a line, which begins a comment; the line's end where there is none.
-pub fn comment_at(line: &[u8]) -> usize
-    ensures { result ≡ Words.comment_at line.now }
+// A line up to its comment.
+pub fn uncommented(line: &[u8]) -> &[u8]
+    ensures { result.now ≡ uncommented line.now }
 {
-    let mut i = 0;
-    while i < line.len() {
-        if line[i] == b'#' {
-            return i;
-        }
-        i += 1;
-    }
-    i
+    &line[..comment_at(line).unwrap_or(line.len())]
 }
 
 // A blank parts words: a space, a tab or a carriage return.
-pub fn is_blank(c: u8) -> bool
-    ensures { result ≡ Words.blank c }
+#[tactic(auto, unfolding(crate::specs::Words::blank))]
+fn is_blank(c: u8) -> bool
+    ensures { result ≡ blank c }
 {
-    if c == b' ' {
-        return true;
-    }
-    if c == b'\t' {
-        return true;
-    }
-    c == b'\r'
+    matches!(c, b' ' | b'\t' | b'\r')
 }
 
-// A byte of one sort: a blank, or none.
-fn of_sort(blanks: bool, c: u8) -> bool
-    ensures { result ≡ Words.of_sort blanks c }
+// Where the first word of a line starts; None where the line has no word.
+fn word_start(line: &[u8]) -> Option<usize>
+    ensures { result ≡ position (λ c. not (blank c)) line.now }
 {
-    if blanks {
-        return is_blank(c);
-    }
-    !is_blank(c)
+    line.iter().position(|c| !is_blank(*c))
 }
 
-// The end of the run of bytes of one sort that starts at a place.
-pub fn run_end(s: &[u8], at: usize, blanks: bool) -> usize
-    requires { at ≤ length s.now }
-    ensures { result ≡ at + Words.run blanks (drop at s.now) }
+// Where the word that a line starts with ends; None where it ends with the line.
+fn word_end(line: &[u8]) -> Option<usize>
+    ensures { result ≡ position (λ c. blank c) line.now }
 {
-    let mut i = at;
-    while i < s.len() {
-        if !of_sort(blanks, s[i]) {
-            return i;
-        }
-        i += 1;
-    }
-    i
+    line.iter().position(|c| is_blank(*c))
 }
 
-// The first word from a place on; it is empty at the line's end where there is none.
-pub fn next_word(s: &[u8], at: usize) -> Span
-    requires { at ≤ length s.now }
-    ensures { NextWord s.now at result }
+// The first word of a line, and the line behind it; None where the line has no word.
+fn next_word(line: &[u8]) -> Option<(&[u8], &[u8])>
+    ensures { NextWord line.now result }
 {
-    let start = run_end(s, at, true);
-    let end = run_end(s, start, false);
-    Span { start, end }
+    let rest = &line[word_start(line)?..];
+    Some(rest.split_at(word_end(rest).unwrap_or(rest.len())))
+}
+
+// The words of a line, one after another: the line that is left.
+#[derive(Clone, Copy)]
+pub struct Words<'a> {
+    left: &'a [u8],
+}
+
+impl<'a> Words<'a> {
+    pub fn new(line: &'a [u8]) -> Words<'a>
+        ensures { words_left result ≡ words line.now }
+    {
+        Words { left: line }
+    }
+}
+
+impl<'a> Iterator for Words<'a> {
+    type Item = &'a [u8];
+
+    ghost next_gives = { YieldsFirstRef words_left };
+
+    ghost remaining = { item_count words_left };
+
+    fn next(&mut self) -> Option<&'a [u8]> {
+        let (word, left) = next_word(self.left)?;
+        self.left = left;
+        Some(word)
+    }
 }

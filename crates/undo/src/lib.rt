@@ -22,6 +22,7 @@ pub fn place(k: Kept) -> usize
 }
 
 // One change more, where there was one.
+#[tactic(auto, unfolding(crate::specs::Undo::one_step_more))]
 pub fn one_more(k: Kept, changed: bool) -> Kept
     ensures { result ≡ Undo.one_step_more k changed }
 {
@@ -32,7 +33,7 @@ pub fn one_more(k: Kept, changed: bool) -> Kept
         return Kept {
             top: k.top % 65 + 1,
             count: k.count + 1,
-            dropped: k.dropped,
+            ..k
         };
     }
     Kept {
@@ -43,18 +44,16 @@ pub fn one_more(k: Kept, changed: bool) -> Kept
 }
 
 // The last change is taken back, where that is asked for and one is kept.
+#[tactic(auto, unfolding(crate::specs::Undo::one_less))]
 pub fn one_less(k: Kept, asked: bool) -> Kept
     ensures { result ≡ Undo.one_less k asked }
 {
-    if !asked {
-        return k;
-    }
-    if k.count == 0 {
+    if !asked || k.count == 0 {
         return k;
     }
     Kept {
         top: k.top % 65 + 64,
         count: k.count - 1,
-        dropped: k.dropped,
+        ..k
     }
 }

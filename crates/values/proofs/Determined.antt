@@ -1,13 +1,11 @@
 -- The contracts of the crate's public functions determine their results.
-use mathlib.Core.Path.{refl}
+use Rattle.std.proofs.Common.{refl, ◌<◌, ◌≤◌}
 use seplogic.Ra.Ura.{Ura}
 use base.Logic.{SProp}
 use prog.Memory.{Memory}
 use prog.Routine.{Routine}
 use types.Logic.{Logic}
 use contract.Monad.{Fun}
-use Prim.Native.Nat.{◌<◌, ◌≤◌}
-use Rattle.rules.specs.Answers as Answers
 use Rattle.rules.specs.Bits as Bits
 use Rattle.rules.specs.Board as Boards
 use Rattle.rules.specs.Book as Book
@@ -15,7 +13,6 @@ use Rattle.rules.specs.Commands.{count_fits, home_outside}
 use Rattle.rules.specs.Lists as Lists
 use Rattle.rules.specs.Determined.{Determined}
 use Rattle.rules.proofs.Determined.{by_equation, by_equation_with}
-use Rattle.values.specs.Numbers.{answer_of}
 use Rattle.values.specs.contracts.bits.wide as wide
 use Rattle.values.specs.contracts.bits.has as has
 use Rattle.values.specs.contracts.bits.with as with-one
@@ -27,8 +24,6 @@ use Rattle.values.specs.contracts.mode.is_exclusive as is-exclusive
 use Rattle.values.specs.contracts.mode.mode_if as mode-if
 use Rattle.values.specs.contracts.count.count_fits as count_fits
 use Rattle.values.specs.contracts.homes.home_outside as home-outside
-use Rattle.values.specs.contracts.answer.number as number
-use Rattle.values.specs.contracts.answer.answer_of as answer-of
 use Rattle.values.specs.contracts.message.kind_load as kind-load
 use Rattle.values.specs.contracts.message.no_entries as no-entries
 
@@ -65,12 +60,6 @@ module _ {M : Type 1} {𝓤 : Ura M} (𝓛 : Logic 𝓤) (mem : Memory → SProp
 
   pub home_outside_determined : Determined home-outside.ended (home-outside.clauses 𝓛 mem run) (λ κs r e. r)
   home_outside_determined = by_equation (λ κs a. home_outside a.1.1.0 a.1.0 a.0) (λ κs a g r e. refl)
-
-  pub number_determined : Determined number.ended (number.clauses 𝓛 mem run) (λ κs r e. r)
-  number_determined = by_equation (λ κs a. Answers.number a.0) (λ κs a g r e. refl)
-
-  pub answer_of_determined : Determined answer-of.ended (answer-of.clauses 𝓛 mem run) (λ κs r e. r)
-  answer_of_determined = by_equation (λ κs a. answer_of a.0) (λ κs a g r e. refl)
 
   pub kind_load_determined : Determined kind-load.ended (kind-load.clauses 𝓛 mem run) (λ κs r e. r)
   kind_load_determined = by_equation_with (λ κs a. Boards.kind_load a.0) (λ κs a r e. r ≤ 2) (λ κs a g r e. refl)

@@ -1,3 +1,5 @@
 -- Laws that the proofs share, and that the contracts determine.
-pub mod Numbers
+pub mod Answers
+pub mod Defaults
+pub mod Rows
 pub mod Determined

@@ -6,8 +6,5 @@ ghost use Rattle.rules.specs.Commands.{count_fits};
 pub fn count_fits(n: u8, top: u8) -> bool
     ensures { result ≡ count_fits n top }
 {
-    if n == 0 {
-        return false;
-    }
-    n <= top
+    0 < n && n <= top
 }

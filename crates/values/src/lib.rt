@@ -1,7 +1,6 @@
 // Single values: sets as bits of a number, modes, counts, homes, the numbers of the answers, the load of a message. Most crates stand on these.
 #![tactic(auto)]
 
-pub mod answer;
 pub mod bits;
 pub mod count;
 pub mod homes;

@@ -11,21 +11,14 @@ pub fn kind_load(k: Kind) -> usize
 {
     match k {
         Kind::Free => 0,
-        Kind::Request(_, _, _) => 2,
-        Kind::Grant(_, _, _) => 1,
-        Kind::Release(_, _) => 1,
-        Kind::ListToHome => 1,
-        Kind::ListToObject(_) => 1,
+        Kind::Request(..) => 2,
+        Kind::Grant(..) | Kind::Release(..) | Kind::ListToHome | Kind::ListToObject(_) => 1,
     }
 }
 
+// The entries of no list.
 pub fn no_entries() -> Entries
     ensures { result ≡ Lists.no_entries }
 {
-    Entries {
-        who: [0; 16],
-        leads: [0; 16],
-        count: 0,
-        next: 0,
-    }
+    Entries::default()
 }

@@ -1,4 +1,4 @@
-// Modes as tests.
+// Modes as tests. No `From<bool>`, which would not say that true is exclusive.
 ghost use Rattle.std.specs.Prelude.{◌≡◌};
 ghost use Rattle.rules.specs.Book as Book;
 
@@ -7,17 +7,15 @@ use rules::Mode;
 pub fn is_exclusive(m: Mode) -> bool
     ensures { result ≡ Book.is_exclusive m }
 {
-    match m {
-        Mode::Shared => false,
-        Mode::Exclusive => true,
-    }
+    m == Mode::Exclusive
 }
 
 pub fn mode_if(exclusive: bool) -> Mode
     ensures { result ≡ Book.mode_if exclusive }
 {
     if exclusive {
-        return Mode::Exclusive;
+        Mode::Exclusive
+    } else {
+        Mode::Shared
     }
-    Mode::Shared
 }

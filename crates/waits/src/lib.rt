@@ -4,170 +4,110 @@
 
 ghost use Rattle.std.specs.Prelude.{◌<◌, ◌≤◌};
 
+use arrayvec::ArrayVec;
+use objects::{bars, mode_at, rivals};
 use rules::{Board, Mode, Object};
+use std::io::{Result, Write};
+use text::Page;
 use values::bits::{has, wide};
-use values::mode::is_exclusive;
-use words::{clause, digit, either, items, members, say, size, text};
-
-// Some processes of a line, from the front.
-#[derive(Clone, Copy)]
-pub struct Stand {
-    pub who: [u8; 16],
-    pub count: u8,
-}
-
-// The process at place j, which is no such holder, stands in conflict with process p in the mode.
-fn is_ahead(o: Object, p: u8, m: Mode, j: u8, holders: u64) -> bool
-    requires { j < 16 }
-{
-    let q = o.line[wide(j)];
-    if q < 16 {
-        return objects::bars(q, o.line_exclusive, p, m, j) & !has(holders, q);
-    }
-    false
-}
+use words::{Members, numbers, on_or_below, size};
 
 // Those who stand ahead of place k in conflict with process p in the mode, and are not among the holders that it waits for.
-fn ahead(o: Object, p: u8, m: Mode, k: u8, holders: u64) -> Stand
+fn in_conflict(o: &Object, p: u8, m: Mode, k: usize, holders: u64) -> ArrayVec<u8, 16>
     requires { k ≤ 16 }
 {
-    let mut who = [0u8; 16];
-    let mut count: u8 = 0;
-    let mut j: u8 = 0;
-    while j < k {
-        if !is_ahead(o, p, m, j, holders) {
-            j += 1;
-            continue;
+    let mut who = ArrayVec::new();
+    for (j, q) in o.line[..k].iter().enumerate() {
+        if *q < 16 && bars(*q, o.line_exclusive, p, m, j as u8) && !has(holders, *q) {
+            let _ = who.try_push(*q);
         }
-        who[wide(count)] = o.line[wide(j)];
-        count += 1;
-        j += 1;
     }
-    Stand { who, count }
+    who
 }
 
 // ---- whom a process waits for, in a row that ends early enough for the words behind it
-fn named_holders(out: &mut [u8; 65536], at: usize, set: u64) -> usize {
-    let end = members(out, at, b"p#", set, 0, 84);
-    either(
-        out,
-        end,
-        size(set) == 1,
-        b", which holds it|, which hold it|",
-    )
+fn hold(out: &mut Page, set: u64) -> Result<()> {
+    numbers(out, 84, 'p', Members::of(set))?;
+    let verb = if size(set) == 1 { "holds" } else { "hold" };
+    write!(out, ", which {verb} it")
 }
 
-fn named_ahead(out: &mut [u8; 65536], at: usize, s: Stand, last: usize) -> usize {
-    let who = s.who;
-    let end = items(out, at, b"p#", who, 0, s.count, last);
-    either(
-        out,
-        end,
-        s.count == 1,
-        b", which stands ahead|, which stand ahead|",
-    )
+fn stand_ahead(out: &mut Page, who: &[u8]) -> Result<()> {
+    numbers(out, 81, 'p', who.iter().copied())?;
+    let verb = if who.len() == 1 { "stands" } else { "stand" };
+    write!(out, ", which {verb} ahead")
 }
 
 // Those whom a process waits for: first who holds, then who stands ahead.
-fn named(out: &mut [u8; 65536], at: usize, holders: u64, s: Stand) -> usize {
-    if s.count == 0 {
-        if holders == 0 {
-            return text(out, at, b"nobody");
+fn named(out: &mut Page, holders: u64, ahead: &[u8]) -> Result<()> {
+    match (holders, ahead) {
+        (0, []) => write!(out, "nobody"),
+        (0, _) => stand_ahead(out, ahead),
+        (_, []) => hold(out, holders),
+        _ => {
+            hold(out, holders)?;
+            write!(out, ";")?;
+            on_or_below(out, 100, ahead, stand_ahead)
         }
-        return named_holders(out, at, holders);
     }
-    if holders == 0 {
-        return named_ahead(out, at, s, 81);
-    }
-    let held = named_holders(out, at, holders);
-    let whole = named_ahead(out, held, s, 1000);
-    let parted = clause(out, held, whole);
-    named_ahead(out, parted, s, 81)
 }
 
 // Whom the process at place k of the line waits for. In the lines of a board in shape every number is below 16.
-fn at_place(out: &mut [u8; 65536], at: usize, o: Object, k: u8) -> usize
+fn at_place(out: &mut Page, o: &Object, k: u8) -> Result<()>
     requires { k < 16 }
 {
-    let p = o.line[wide(k)];
-    let m = objects::mode_at(o, k);
-    if p < 16 {
-        let holders = objects::rivals(o, p, m);
-        let mode = digit(is_exclusive(m));
-        let begun = say(out, at, b"  p# (?) waits for ", [p, mode, 0, 0]);
-        let told = named(out, begun, holders, ahead(o, p, m, k, holders));
-        return text(out, told, b"\n");
+    let place = wide(k);
+    let p = o.line[place];
+    if 16 <= p {
+        return Ok(());
     }
-    at
+    let mode = mode_at(*o, k);
+    let holders = rivals(*o, p, mode);
+    let ahead = in_conflict(o, p, mode, place, holders);
+    write!(out, "  p{p} ({mode}) waits for ")?;
+    named(out, holders, ahead.as_slice())?;
+    writeln!(out)
 }
 
 // Each who stands in the line.
-fn in_line(out: &mut [u8; 65536], at: usize, number: u8, home: u8, o: Object) -> usize {
-    let mut end = say(
-        out,
-        at,
-        b"at node #, in the line of o#\n",
-        [home, number, 0, 0],
-    );
-    let mut k: u8 = 0;
-    while k < 16 {
-        if o.line_count <= k {
-            return end;
-        }
-        end = at_place(out, end, o, k);
-        k += 1;
+fn in_line(out: &mut Page, number: usize, home: u8, o: &Object) -> Result<()> {
+    writeln!(out, "at node {home}, in the line of o{number}")?;
+    for k in 0..o.line_count.min(16) {
+        at_place(out, o, k)?;
     }
-    end
-}
-
-fn object(out: &mut [u8; 65536], at: usize, b: Board, i: u8, node: u8) -> usize
-    requires { i < 16 }
-{
-    let k = wide(i);
-    let o = b.objects[k];
-    if b.object_home[k] != node {
-        return at;
-    }
-    if o.line_count == 0 {
-        return at;
-    }
-    in_line(out, at, i, node, o)
+    Ok(())
 }
 
 // The lines of the objects that live on a node.
-fn at_node(out: &mut [u8; 65536], at: usize, b: Board, node: u8) -> usize {
-    let mut end = at;
-    let mut i: u8 = 0;
-    while i < 16 {
-        end = object(out, end, b, i, node);
-        i += 1;
+fn at_node(out: &mut Page, b: &Board, node: u8) -> Result<()> {
+    for (i, (o, home)) in b.objects.iter().zip(&b.object_home).enumerate() {
+        if *home == node && o.line_count != 0 {
+            in_line(out, i, node, o)?;
+        }
     }
-    end
+    Ok(())
 }
 
 // Who waits at one node.
-pub fn one(out: &mut [u8; 65536], at: usize, b: Board, node: u8) -> usize {
-    let end = at_node(out, at, b, node);
-    if end == at {
-        return say(
+pub fn one(out: &mut Page, b: &Board, node: u8) -> Result<()> {
+    let begun = out.len();
+    at_node(out, b, node)?;
+    if out.len() == begun {
+        writeln!(
             out,
-            at,
-            b"  nobody waits at node #: nobody stands in a line there\n",
-            [node, 0, 0, 0],
-        );
+            "  nobody waits at node {node}: nobody stands in a line there"
+        )?;
     }
-    end
+    Ok(())
 }
 
-pub fn all(out: &mut [u8; 65536], at: usize, b: Board) -> usize {
-    let mut end = at;
-    let mut node: u8 = 0;
-    while node < 8 {
-        end = at_node(out, end, b, node);
-        node += 1;
+pub fn all(out: &mut Page, b: &Board) -> Result<()> {
+    let begun = out.len();
+    for node in 0..8 {
+        at_node(out, b, node)?;
     }
-    if end == at {
-        return text(out, at, b"  nobody waits: nobody stands in a line\n");
+    if out.len() == begun {
+        writeln!(out, "  nobody waits: nobody stands in a line")?;
     }
-    end
+    Ok(())
 }

@@ -1,10 +1,9 @@
--- `in_turn` meets its contract. The invariant: the places passed are filled. The measure is the places left. Assumes nothing.
-use Rattle.asked.proofs.Homes.{turn_none, turn_all}
-use borrow.Author.Rules.{rules}
+-- `in_turn` meets its contract: place by place. Assumes nothing.
+use Rattle.std.proofs.Common.{rules}
+use Rattle.typed.proofs.Filling.{made_row}
+use Rattle.asked.specs.Asked.{in_turn_at, in_turn}
 use Rattle.asked.proofs.in_turn.Goals as goal
 
-pub returns-then-nodes-eq0 : goal.returns-then-nodes-eq0
-returns-then-nodes-eq0 c = turn_none c.args.nodes c.if-nodes-eq0.true
-
 pub returns : goal.returns
-returns c = turn_all c.args.nodes c.loop-i.r c.loop-i.i (search rules) c.loop-i.invariant.2
+unfolding in_turn
+returns c = made_row _ _ (in_turn_at c.args.nodes) (λ i y q called. search rules) _ _ c.from_fn.ensures.items

@@ -1,25 +1,20 @@
 -- `bench::run` meets its contract: the shape, an odd byte and the room, then the engine. Assumes nothing.
-use mathlib.Core.Path.{refl}
-use Rattle.bench.proofs.Calls.{unshaped, shaped, both, run_unshaped, run_odd, run_short, run_whole}
+use mathlib.Core.Path.{refl, sym}
+use Rattle.bench.proofs.Calls.{both, run_unshaped, run_refused, run_whole}
 use Rattle.bench.proofs.run.Goals as goal
 
-pub returns-then-load-gt64 : goal.returns-then-load-gt64
-returns-then-load-gt64 c =
+pub returns-in_default : goal.returns-in_default
+returns-in_default c =
     let a = c.args in
-    both (run_unshaped a.b a.s.now a.room.now (unshaped _ _ c.load_if_ready-load.ensures.0 c.if-load-gt64.true)) c.refused.ensures refl
+    both (run_unshaped a.b a.s.now a.room.now (sym c.in_default.ensures.shape)) c.refused.ensures refl
 
-pub returns-then-s-eq1 : goal.returns-then-s-eq1
-returns-then-s-eq1 c =
-    let a = c.args in
-    both (run_odd a.b a.s.now a.room.now (shaped _ _ c.load_if_ready-load.ensures.0 c.if-load-gt64.false) c.if-s-eq1.true) c.refused-then-s-eq1.ensures refl
-
-pub returns-then-room-n : goal.returns-then-room-n
-returns-then-room-n c =
-    let a = c.args in
-    both (run_short a.b a.s.now a.room.now (shaped _ _ c.load_if_ready-load.ensures.0 c.if-load-gt64.false) c.if-s-eq1.false c.if-room-n.true) c.refused-then-room-n.ensures refl
-
-pub returns : goal.returns
-returns c =
+pub returns-in-Ok : goal.returns-in-Ok
+returns-in-Ok c =
     let a = c.args in
     let w = c.turns.ensures.sheet refl in
-    both (run_whole a.b a.s.now a.room.now (shaped _ _ c.load_if_ready-load.ensures.0 c.if-load-gt64.false) c.if-s-eq1.false c.if-room-n.false) w.0 w.1
+    both (run_whole a.b a.s.now a.room.now (sym c.in-Some.ensures.shape) c.in-Ok.n c.in-Ok.ensures.0 c.in-Ok.ensures.2) w.0 w.1
+
+pub returns-in-Err : goal.returns-in-Err
+returns-in-Err c =
+    let a = c.args in
+    both (run_refused a.b a.s.now a.room.now (sym c.in-Some.ensures.shape) c.in-Err.answer c.in-Err.ensures.0 c.in-Err.ensures.1) c.refused-in-Err.ensures refl

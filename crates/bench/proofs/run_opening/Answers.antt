@@ -7,7 +7,7 @@ use Rattle.rules.specs.declared.Board.{Board}
 use Rattle.rules.specs.declared.Ran.{Ran}
 use Rattle.rules.specs.Commands.{zero_board}
 use Rattle.rules.specs.Sheet.{Run, refused_run}
-use Rattle.bench.proofs.Calls.{both, opening_load, opening_ends, opening_ready, opening_odd, opening_short, opening_whole}
+use Rattle.bench.proofs.Calls.{both, opening_load, opening_ends, opening_ready, opening_refused, opening_whole}
 use Rattle.engine.proofs.Working.{for_sheet}
 use Rattle.bench.proofs.run_opening.Goals as goal
 
@@ -15,28 +15,27 @@ use Rattle.bench.proofs.run_opening.Goals as goal
 zeros : {x : Run} {a : Answer} {b : Board} {r : Ran} {room : List ℕ} → x ≡ refused_run a zero_board room → b ≡ zero_board → r ≡ (refused_run a b []).ran → (r ≡ x.ran) × (room ≡ x.room)
 zeros {a = a} {room = room} e f g = both e (g ∙ ap (λ (b : Board). (refused_run a b room).ran) f) refl
 
-pub returns-then-number-ne0 : goal.returns-then-number-ne0
-returns-then-number-ne0 c =
+pub returns-then-not-is_done : goal.returns-then-not-is_done
+returns-then-not-is_done c =
     let a = c.args in
-    zeros (opening_ends a.nodes a.processes a.objects a.process_home a.object_home c.answer-answer.result c.answer-answer.ensures c.number.result c.number.ensures a.s.now a.room.now c.if-number-ne0.true) c.zero_board.ensures c.refused.ensures
-
-pub returns-then-s-eq1 : goal.returns-then-s-eq1
-returns-then-s-eq1 c =
-    let a = c.args in
-    zeros (opening_odd a.nodes a.processes a.objects a.process_home a.object_home c.answer-answer.result c.answer-answer.ensures c.number.result c.number.ensures a.s.now a.room.now c.if-number-ne0.false c.if-s-eq1.true) c.zero_board-then-s-eq1.ensures c.refused-then-s-eq1.ensures
-
-pub returns-then-room-n : goal.returns-then-room-n
-returns-then-room-n c =
-    let a = c.args in
-    zeros (opening_short a.nodes a.processes a.objects a.process_home a.object_home c.answer-answer.result c.answer-answer.ensures c.number.result c.number.ensures a.s.now a.room.now c.if-number-ne0.false c.if-s-eq1.false c.if-room-n.true) c.zero_board-then-room-n.ensures c.refused-then-room-n.ensures
+    let o = a.opening.now in
+    zeros (opening_ends o.nodes o.processes o.objects o.process_home o.object_home c.answer-answer.result c.answer-answer.ensures c.is_done.result c.is_done.ensures a.s.now a.room.now c.if-not-is_done.true) c.zero_board.ensures c.refused.ensures
 
 pub turns-requires : goal.turns-requires
 turns-requires c =
     let a = c.args in
-    (opening_ready a.nodes a.processes a.objects a.process_home a.object_home c.answer-answer.result c.answer-answer.ensures c.number.result c.number.ensures a.s.now a.room.now c.if-number-ne0.false c.board-start.result c.board-start.ensures, for_sheet _ _ _ refl c.if-room-n.false, opening_load a.nodes a.processes a.objects a.process_home a.object_home c.answer-answer.result c.answer-answer.ensures c.number.result c.number.ensures a.s.now a.room.now c.if-number-ne0.false c.board-start.result c.board-start.ensures)
+    let o = a.opening.now in
+    (opening_ready o.nodes o.processes o.objects o.process_home o.object_home c.answer-answer.result c.answer-answer.ensures c.is_done.result c.is_done.ensures a.s.now a.room.now c.if-not-is_done.false c.board.result c.board.ensures, for_sheet _ _ _ c.in-Ok.ensures.0 c.in-Ok.ensures.1, opening_load o.nodes o.processes o.objects o.process_home o.object_home c.answer-answer.result c.answer-answer.ensures c.is_done.result c.is_done.ensures a.s.now a.room.now c.if-not-is_done.false c.board.result c.board.ensures)
 
-pub returns : goal.returns
-returns c =
+pub returns-in-Ok : goal.returns-in-Ok
+returns-in-Ok c =
     let a = c.args in
+    let o = a.opening.now in
     let w = c.turns.ensures.sheet refl in
-    both (opening_whole a.nodes a.processes a.objects a.process_home a.object_home c.answer-answer.result c.answer-answer.ensures c.number.result c.number.ensures a.s.now a.room.now c.if-number-ne0.false c.if-s-eq1.false c.board-start.result c.board-start.ensures c.if-room-n.false) w.0 w.1
+    both (opening_whole o.nodes o.processes o.objects o.process_home o.object_home c.answer-answer.result c.answer-answer.ensures c.is_done.result c.is_done.ensures a.s.now a.room.now c.if-not-is_done.false c.board.result c.board.ensures c.in-Ok.n c.in-Ok.ensures.0 c.in-Ok.ensures.2) w.0 w.1
+
+pub returns-in-Err : goal.returns-in-Err
+returns-in-Err c =
+    let a = c.args in
+    let o = a.opening.now in
+    zeros (opening_refused o.nodes o.processes o.objects o.process_home o.object_home c.answer-answer.result c.answer-answer.ensures c.is_done.result c.is_done.ensures a.s.now a.room.now c.if-not-is_done.false c.in-Err.answer c.in-Err.ensures.0 c.in-Err.ensures.1) c.zero_board-in-Err.ensures c.refused-in-Err.ensures

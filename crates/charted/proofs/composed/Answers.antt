@@ -1,8 +1,10 @@
 -- `charted::composed` meets its contract: the lines one after another. Assumes nothing.
-use borrow.Author.Rules.{rules}
-use Rattle.text.proofs.Text.{wrote_as, wrote_then}
-use Rattle.charted.proofs.Lines.{chart_parts}
+use Rattle.std.proofs.Common.{rules}
+use Rattle.charted.proofs.Lines.{chart_whole}
 use Rattle.charted.proofs.composed.Goals as goal
 
 pub returns : goal.returns
-returns c = (wrote_as (chart_parts c.args.t) (wrote_then (wrote_then (wrote_then (wrote_then (wrote_then c.total_line-sheets.ensures.0 c.total_line-ran.ensures.0) c.total_line-refused.ensures.0) c.refused_lines-numbered.ensures.0) c.total_line-ringed.ensures.0) c.ring_lines.ensures.0), search rules)
+returns c = (
+  chart_whole _ c.clear.ensures c.total_line.ensures.text c.total_line-2.ensures.text c.total_line-3.ensures.text c.refused_lines.ensures.text c.total_line-4.ensures.text c.ring_lines.ensures.text,
+  search rules,
+)

@@ -1,5 +1,5 @@
 -- `input::whole` meets its contract: each piece lengthens what was read by itself, and by what the reader gave. Assumes nothing.
-use Rattle.std.proofs.Common.{rules}
+use Rattle.std.proofs.Common.{rules, arith, length-take}
 use Rattle.input.proofs.Pieces.{more_known, none_known, as_long}
 use Rattle.input.proofs.whole.Goals as goal
 
@@ -10,6 +10,6 @@ pub loop-preserved : goal.loop-preserved
 loop-preserved g c = (
   search rules,
   search rules,
-  as_long _ _ _ c.loop.invariant.2 c.taken-total.ensures.0,
-  more_known _ _ _ _ _ _ _ c.loop.invariant.3 c.taken-total.ensures.0 c.taken-total.ensures.1 c.read_some-got.ensures.bytes,
+  as_long _ _ _ c.loop.invariant.2 c.keep.ensures,
+  more_known _ _ _ _ _ _ _ c.loop.invariant.3 c.keep.ensures (omega (arith, c.in-Ok.ensures.within, length-take c.in-Ok.n c.read_some.new.piece)) c.in-Ok.ensures.bytes,
 )

@@ -6,5 +6,5 @@ use Rattle.input.proofs.whole.Given as goal
 
 abbrev pub invariant-loop : goal.invariant-loop
 invariant-loop g l =
-    (l.total ≤ 65536 * l.counter) × (length l.piece ≡ 65536) × (length l.first ≡ 65536)
-    × ((w : List ℕ) × Pieces l.initial.first w l.first l.total × Consumes (g.R.Read.remaining l.initial.from) (g.R.Read.remaining l.from) w)
+    (l.count ≤ 65536 * l.counter) × (length l.piece ≡ 65536) × (length l.first ≡ 65536)
+    × ((w : List ℕ) × Pieces l.initial.first w l.first l.count × Consumes (g.R.Read.remaining l.initial.from) (g.R.Read.remaining l.from) w)

@@ -1,6 +1,5 @@
 -- `let_in` meets its contract. The loop's invariant: letting in from the book in hand ends as from the first one.
-use mathlib.Core.Path.{◌≡◌, sym, ◌∙◌}
-use mathlib.Core.Bool.{true}
+use Rattle.std.proofs.Common.{◌≡◌, sym, ◌∙◌, true}
 use Rattle.objects.specs.Fronts.{front_goes}
 use Rattle.objects.proofs.Fronts.{let_in_ends, let_in_goes, granted_line}
 use Rattle.objects.proofs.let_in.Goals as goal

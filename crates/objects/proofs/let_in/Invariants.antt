@@ -1,5 +1,5 @@
 -- `let_in` meets its contract. The loop's invariant: letting in from the book in hand ends as from the first one.
-use mathlib.Core.Path.{◌≡◌}
+use Rattle.std.proofs.Common.{◌≡◌}
 use Rattle.rules.specs.Ranges.{LineRanged}
 use Rattle.objects.specs.Fronts.{let_in}
 use Rattle.objects.proofs.let_in.Given as goal

@@ -1,18 +1,9 @@
--- `shifted` meets its contract. The loop's invariant: the places below i hold what stood one place on, the others what they held.
-use mathlib.Core.Path.{◌≡◌, ◌∙◌}
-use native.Mathlib.Omega.{arith}
-use native.Mathlib.Numerals.{add-one}
-use Rattle.objects.proofs.Shift.{shift_more, shift_end}
+-- `shifted` meets its contract: each place has what stood one place on.
+use Rattle.std.proofs.Common.{◌+◌, get_or, rules, arith}
+use Rattle.objects.proofs.Shift.{made, moved_up}
 use Rattle.objects.proofs.shifted.Goals as goal
-
-pub loop-i-preserved : goal.loop-i-preserved
-loop-i-preserved c =
-    let v = c.loop-i in
-    let a = c.args.line in
-    (omega arith, v.invariant.1, rw v.invariant.2 (shift_more a v.i (omega arith) ∙ rw add-one))
 
 pub returns : goal.returns
 returns c =
-    let v = c.loop-i in
-    let e : v.i ≡ 15 = omega arith in
-    rw (v.invariant.2, e) (shift_end c.args.line 15 v.invariant.1)
+    let l = c.args.line in
+    moved_up c.from_fn.result l 15 c.from_fn.ensures.items.long (omega arith) (made _ _ (λ k. get_or l (k + 1) 0) c.from_fn.result 0 (λ k y q call. (search rules, search rules)) 16 c.from_fn.ensures.items)

@@ -1,19 +1,9 @@
--- `homes_of` meets its contract: the homes passed are kept. Assumes nothing.
-use mathlib.Core.List.{List}
-use mathlib.Core.Path.{sym, ap, ◌∙◌}
-use Prim.Native.Nat.{ℕ}
-use native.Mathlib.Omega.{arith}
-use lib.ListN.{set, get_or}
-use Rattle.opening.proofs.Homes.{homes_none, homes_more, homes_full, most_16}
+-- `homes_of` meets its contract: the first homes are copied into a row of zeros.
+use Rattle.std.proofs.Common.{◌∙◌, ap, arith, List, ℕ, ◌++◌, drop, replicate}
+use Rattle.opening.proofs.Homes.{homes_kept}
 use Rattle.opening.proofs.homes_of.Goals as goal
 
-pub loop-k-init : goal.loop-k-init
-loop-k-init c =
-    let a = c.args in
-    (omega arith, rw c.at_most_16-n.ensures (most_16 a.count), rw c.at_most_16-n.ensures (homes_full a.homes a.count), sym (homes_none a.homes))
-
-pub loop-k-preserved : goal.loop-k-preserved
-loop-k-preserved c =
-    let v = c.loop-k in
-    let s = c.args in
-    (omega (arith, c.loop-k-test.true), v.invariant.1, v.invariant.2, ap (λ (l : List ℕ). set l v.k (get_or s.homes v.k 0)) v.invariant.3 ∙ homes_more s.homes v.k (omega (arith, c.loop-k-test.true, v.invariant.1)))
+pub returns : goal.returns
+returns c =
+    let n = c.from-n.result in
+    ap (λ (s : List ℕ). s ++ drop n (replicate 16 0)) c.copy_from_slice.ensures.after ∙ homes_kept c.args.count c.args.homes n (omega arith) (omega arith)

@@ -1,7 +1,6 @@
 -- `holds` meets its contract: a hold stands in one of the two sets.
 use Rattle.rules.specs.Bits.{taken}
-use mathlib.Core.Path.{◌≡◌, refl, ◌∙◌}
-use mathlib.Core.Bool.{Bool, true, false}
+use Rattle.std.proofs.Common.{◌≡◌, refl, ◌∙◌, Bool, true, false}
 use mathlib.Core.Option.{some, none}
 use Rattle.rules.specs.declared.Mode.TheVariants.{Shared, Exclusive}
 use Rattle.rules.specs.Tables.{pick, either}

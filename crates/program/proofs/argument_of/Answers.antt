@@ -1,22 +1,17 @@
 -- `program::argument_of` meets its contract: each test is one of the definition. Assumes nothing.
-use Rattle.program.proofs.Arguments.{long_help, short_help, dash_alone, any_other}
+use Rattle.program.proofs.Arguments.{is_word, is_help, is_input, is_unknown, is_file}
 use Rattle.program.proofs.argument_of.Goals as goal
 
-pub returns-then-same : goal.returns-then-same
-returns-then-same c = long_help _ (c.same.ensures.0 c.if-same.true)
+pub returns-then-asks_for_help : goal.returns-then-asks_for_help
+returns-then-asks_for_help c = is_help _ c.asks_for_help.ensures c.if-asks_for_help.true
 
-pub returns-then-same-2 : goal.returns-then-same-2
-returns-then-same-2 c = short_help _ (c.same-2.ensures.0 c.if-same-2.true)
+pub returns-then-eq : goal.returns-then-eq
+returns-then-eq c = is_input _ c.asks_for_help.ensures (is_word _ _ c.eq.ensures c.as_slice.ensures) c.if-asks_for_help.false c.if-eq.true
 
-pub returns-then-same-3 : goal.returns-then-same-3
-returns-then-same-3 c = dash_alone _ (c.same-3.ensures.0 c.if-same-3.true)
+pub returns-then-starts_with : goal.returns-then-starts_with
+returns-then-starts_with c =
+    is_unknown _ c.asks_for_help.ensures (is_word _ _ c.eq.ensures c.as_slice.ensures) c.if-asks_for_help.false c.starts_with.ensures.value c.if-eq.false c.if-starts_with.true
 
-pub returns-then-begins_with_dash : goal.returns-then-begins_with_dash
-returns-then-begins_with_dash c =
-    let tests = any_other _ c.same.ensures.1 c.same-2.ensures.1 c.same-3.ensures.1 in
-    rw c.if-begins_with_dash.true at (tests c.if-same.false c.if-same-2.false c.if-same-3.false _ c.begins_with_dash.ensures)
-
-pub returns : goal.returns
-returns c =
-    let tests = any_other _ c.same.ensures.1 c.same-2.ensures.1 c.same-3.ensures.1 in
-    rw c.if-begins_with_dash.false at (tests c.if-same.false c.if-same-2.false c.if-same-3.false _ c.begins_with_dash.ensures)
+pub returns-else-starts_with : goal.returns-else-starts_with
+returns-else-starts_with c =
+    is_file _ c.asks_for_help.ensures (is_word _ _ c.eq.ensures c.as_slice.ensures) c.if-asks_for_help.false c.starts_with.ensures.value c.if-eq.false c.if-starts_with.false

@@ -9,18 +9,18 @@ use Rattle.search.proofs.Walks.{begun_none, begun_more, begun_all}
 use Rattle.search.proofs.arcs.Goals as goal
 
 pub loop-p-init : goal.loop-p-init
-loop-p-init c = let a = c.args in (omega arith, sym (begun_none 16 (λ x. set_of 16 (waits_for a.b x))))
+loop-p-init c = let a = c.args in sym (begun_none 16 (λ x. set_of 16 (waits_for a.b x)))
 
 pub loop-p-preserved : goal.loop-p-preserved
 loop-p-preserved c =
     let v = c.loop-p in
     let a = c.args in
     let e = set-of (waits_for a.b v.p) _ c.waited.ensures in
-    (omega arith, rw (c.wide-at.ensures.0, e, v.invariant.1, add-one) (begun_more 16 (λ x. set_of 16 (waits_for a.b x)) v.p (omega arith)))
+    rw (c.wide.ensures.0, e, v.invariant, add-one) (begun_more 16 (λ x. set_of 16 (waits_for a.b x)) v.p (omega arith))
 
 pub returns : goal.returns
 unfolding arcs
 returns c =
     let v = c.loop-p in
     let e : v.p ≡ 16 = omega arith in
-    rw e at v.invariant.1 ∙ begun_all 16 (λ x. set_of 16 (waits_for c.args.b x))
+    rw e at v.invariant ∙ begun_all 16 (λ x. set_of 16 (waits_for c.args.b x))

@@ -1,17 +1,11 @@
--- `sheet::commands` meets its contract: what is left after the homes where the answer's number is 0, and an empty part where it is not. Assumes nothing.
-use native.Mathlib.Omega.{arith}
-use Rattle.sheet.proofs.Order.{few_homes, early_start}
-use Rattle.sheet.proofs.Parts.{rest_of_good, part_of_refused}
+-- What is left after the homes of a good sheet, and an empty part of a refused one. Assumes nothing.
+use Rattle.std.proofs.Common.{sym, ap, ◌∙◌}
+use Rattle.rules.specs.Answers.{done}
+use Rattle.sheet.proofs.Parts.{part_of_good, part_of_refused}
 use Rattle.sheet.proofs.commands.Goals as goal
 
-pub tested-a-requires : goal.tested-a-requires
-tested-a-requires c = few_homes c.args.s.now c.read_sheet-h.ensures
+pub returns-in-Ok : goal.returns-in-Ok
+returns-in-Ok c = part_of_good c.args.s.now c.in-Ok.ensures.0 c.in-Ok.ensures.1 c.rest_from.ensures
 
-pub overflow_mul-start : goal.overflow_mul-start
-overflow_mul-start c = omega (arith, early_start c.args.s.now c.read_sheet-h.ensures)
-
-pub returns-then-number-eq0 : goal.returns-then-number-eq0
-returns-then-number-eq0 c = rest_of_good c.args.s.now c.read_sheet-h.ensures c.tested-a.ensures c.number.ensures c.if-number-eq0.true c.rest_from.ensures
-
-pub returns-else-number-eq0 : goal.returns-else-number-eq0
-returns-else-number-eq0 c = part_of_refused c.args.s.now c.read_sheet-h.ensures c.tested-a.ensures c.number.ensures c.if-number-eq0.false
+pub returns-in-Err : goal.returns-in-Err
+returns-in-Err c = part_of_refused c.args.s.now (sym (ap done c.in-Err.ensures.0) ∙ c.in-Err.ensures.1)

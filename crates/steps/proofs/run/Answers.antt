@@ -5,9 +5,9 @@ use Rattle.steps.proofs.Reaching.{whole_sheet}
 use Rattle.steps.proofs.run.Goals as goal
 
 pub overflow_sub-start : goal.overflow_sub-start
-overflow_sub-start c = omega (arith, part_shorter c.args.s.now c.commands-part.ensures)
+overflow_sub-start g c = omega (arith, part_shorter c.args.s.now c.commands-part.ensures)
 
 pub returns : goal.returns
-returns c =
+returns g c =
     let a = c.args in
-    whole_sheet a.s.now a.room.now c.commands-part.ensures c.count-n.ensures c.run-opened.ensures.0 c.steps-last.ensures
+    whole_sheet a.s.now a.room.now c.commands-part.ensures c.count-n.ensures c.run-opened.ensures.0 c.steps-board.ensures

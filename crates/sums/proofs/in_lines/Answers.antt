@@ -1,21 +1,19 @@
--- The lengths of the lines passed. Assumes nothing.
-use borrow.Author.Rules.{rules}
-use mathlib.Core.Path.{◌≡◌, ap, ◌∙◌}
-use native.Mathlib.Omega.{arith}
-use lib.ListN.{length}
-use Rattle.sums.proofs.Sums.{sum_more, sum_none, read_at, length_mapped}
+-- The lengths of the lines passed.
+use Rattle.std.proofs.Common.{◌≡◌, ◌∙◌, ◌<◌, ap, rules, arith, length}
+use Rattle.std.proofs.lemmas.List.{get_or_default}
 use Rattle.rules.specs.declared.Object.{Object}
 use Rattle.rules.specs.Board.{object_at}
+use Rattle.sums.proofs.Sums.{sum_more, sum_none, length_mapped}
 use Rattle.sums.proofs.in_lines.Goals as goal
 
-pub loop-o-init : goal.loop-o-init
-loop-o-init c = (omega arith, omega arith, sum_none _)
+pub loop-object-init : goal.loop-object-init
+loop-object-init c = (omega arith, sum_none _)
 
-pub loop-o-preserved : goal.loop-o-preserved
-loop-o-preserved c =
-    let sizes : length c.args.b.objects ≡ 16 = search (rules, length_mapped) in
+pub loop-object-preserved : goal.loop-object-preserved
+loop-object-preserved c =
     let a = c.args.b in
-    let v = c.loop-o in
-    let l = sizes in
-    let one : c.wide-load.result ≡ (object_at a v.o).line_count = c.wide-load.ensures.0 ∙ ap (λ (x : Object). x.line_count) (read_at a.objects v.o _ _ (omega arith)) in
-    (omega arith, omega (arith, v.invariant.1, c.wide-load.ensures.1), sum_more v.load v.o c.wide-load.result _ v.invariant.2 one)
+    let v = c.loop-object in
+    let sizes : length a.objects ≡ 16 = search (rules, length_mapped) in
+    let one : c.from-load.result ≡ (object_at a v.object-index).line_count = c.from-load.ensures ∙ ap (λ (x : Object). x.line_count) (get_or_default a.objects v.object-index _ _ (omega arith)) in
+    let small : c.from-load.result < 256 = search rules in
+    (omega (arith, v.invariant.0, small), sum_more v.load v.object-index c.from-load.result _ v.invariant.1 one)

@@ -1,12 +1,8 @@
--- The load of the messages passed. Assumes nothing.
-use mathlib.Core.Path.{◌≡◌}
-use Prim.Native.Nat.{◌≤◌, ◌-◌, ◌*◌}
+-- The load of the messages passed.
+use Rattle.std.proofs.Common.{◌≡◌, ◌≤◌, ◌*◌}
 use Rattle.rules.specs.Tables.{sum}
 use Rattle.rules.specs.Board.{kind_load, kind_at}
 use Rattle.sums.proofs.in_messages.Given as goal
 
-abbrev pub invariant-loop-n : goal.invariant-loop-n
-invariant-loop-n l = (l.n ≤ 64) × (l.load ≤ 2 * l.n) × (l.load ≡ sum l.n (λ k. kind_load (kind_at l.b k)))
-
-abbrev pub decreases-loop-n : goal.decreases-loop-n
-decreases-loop-n l = 64 - l.n
+abbrev pub invariant-loop-flight : goal.invariant-loop-flight
+invariant-loop-flight l = (l.load ≤ 2 * l.flight-index) × (l.load ≡ sum l.flight-index (λ k. kind_load (kind_at l.fn.b k)))

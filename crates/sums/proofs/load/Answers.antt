@@ -1,5 +1,5 @@
 -- Both sums together. Assumes nothing.
-use native.Mathlib.Omega.{arith}
+use Rattle.std.proofs.Common.{arith}
 use Rattle.rules.specs.Board.{load}
 use Rattle.sums.proofs.load.Goals as goal
 

@@ -1,12 +1,8 @@
--- The places passed whose rings count. Assumes nothing.
-use native.Mathlib.Omega.{arith}
-use Rattle.sums.proofs.Sums.{sum_more, sum_none}
+-- `tally_of` meets its contract: the chain counts the filled places.
+use Rattle.std.proofs.Common.{rules, arith}
+use Rattle.std.proofs.iter.runs.Made.{chains}
+use Rattle.sums.proofs.Sums.{tally_is}
 use Rattle.sums.proofs.tally_of.Goals as goal
 
-pub loop-s-init : goal.loop-s-init
-loop-s-init c = (omega arith, omega arith, sum_none _)
-
-pub loop-s-preserved : goal.loop-s-preserved
-loop-s-preserved c =
-    let v = c.loop-s in
-    (omega arith, omega (arith, v.invariant.1, c.one_counted-tally.ensures.1), sum_more v.tally v.s c.one_counted-tally.result _ v.invariant.2 c.one_counted-tally.ensures.0)
+pub returns : goal.returns
+returns c = tally_is c.args.rings c.count.result (search (rules, chains)) (omega arith)

@@ -1,12 +1,7 @@
 -- Too long, or the run of what the buffer holds. Assumes nothing.
-use mathlib.Core.Path.{sym, ap, ◌∙◌}
-use mathlib.Core.List.{List}
-use Prim.Native.Nat.{ℕ}
-use lib.ListN.{replicate}
-use Rattle.rules.specs.Sheet.{run_sheet}
+use Rattle.std.proofs.Common.{ap, sym, ◌∙◌, rules}
 use Rattle.totals.specs.Totals.{ran_to, came}
 use Rattle.term.proofs.Laws.{sized_long, sized_whole}
-use borrow.Author.Rules.{rules}
 use Rattle.term.proofs.came.Goals as goal
 
 pub returns-then-held-gt8206 : goal.returns-then-held-gt8206
@@ -17,5 +12,4 @@ pub returns : goal.returns
 unfolding came
 returns c =
     let a = c.args in
-    ap ran_to (c.run-ran.ensures.0 ∙ ap (λ (s : List ℕ). (run_sheet s (replicate 4096 0)).ran) c.start.ensures)
-    ∙ ap came (sym (sized_whole a.held a.sheet.now (search rules)))
+    ap ran_to c.run-ran.ensures.0 ∙ ap came (sym (sized_whole a.held a.sheet.now (search rules)))

@@ -1,20 +1,20 @@
 -- Ran, with its rings, and nothing else. Assumes nothing.
-use mathlib.Core.Path.{ap, ◌∙◌}
-use Prim.Native.Nat.{ℕ}
-use lib.Dec.{ltb}
-use Rattle.rules.specs.Tables.{pick}
-use Rattle.totals.specs.Totals.{more}
-use Rattle.totals.proofs.Laws.{none_more, none_more_at, made_alike}
-use borrow.Author.Rules.{rules}
+use Rattle.std.proofs.Common.{◌∙◌, arith, rules}
+use Rattle.rules.specs.Board.{tally_of}
+use Rattle.totals.proofs.Laws.{none_more, none_more_at, made_alike, one_more_some, none_more_none}
 use Rattle.totals.proofs.ran.Goals as goal
+use Rattle.totals.proofs.ran.Goals.{then-ringed, else-ringed}
 
 pub returns : goal.returns
 returns c =
-    let a = c.args in
+    let t = c.args.t in
     made_alike
     c.one_more.ensures
     c.one_more-2.ensures
-    (none_more a.t.refused)
-    (none_more_at a.t.refused_with (search rules))
-    (c.one_more_if.ensures ∙ ap (λ (n : ℕ). more a.t.ringed (pick (ltb 0 n) 1 0)) c.tally_of.ensures.0)
-    c.with_rings-rings.ensures
+    (none_more t.refused)
+    (none_more_at t.refused_with (search rules))
+    (elim c.if-ringed.branch [
+      | then-ringed w ↦ w.result-is ∙ w.one_more-then-ringed.ensures ∙ one_more_some t.ringed (tally_of c.args.recorded) (omega arith)
+      | else-ringed w ↦ w.result-is ∙ none_more_none t.ringed (tally_of c.args.recorded) (omega arith)
+    ])
+    c.with_rings.ensures

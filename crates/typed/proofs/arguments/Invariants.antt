@@ -1,14 +1,11 @@
--- `typed::arguments` meets its contract. The loop's invariant: the words left, taken after those passed, make the whole; at most one word
--- was counted for each byte passed. The measure is what is left of the line. Assumes nothing.
-use mathlib.Core.Path.{◌≡◌}
-use Prim.Native.Nat.{◌-◌, ◌≤◌}
-use lib.ListN.{length, drop}
+-- `typed::arguments` meets its contract. The loop's invariant: the words left, taken after those passed, make the whole; no more words
+-- were counted than passed. Assumes nothing.
+use Rattle.std.proofs.Common.{◌≡◌, ◌+◌, ◌≤◌, length}
 use Rattle.typed.specs.Reading.{with_words}
-use Rattle.typed.specs.Words.{words}
+use Rattle.typed.specs.Spans.{words_left}
 use Rattle.typed.proofs.arguments.Given as goal
 
-abbrev pub invariant-loop-t : goal.invariant-loop-t
-invariant-loop-t l = (l.at ≤ length l.line) × (l.t.count ≤ l.at) × (with_words l.t (words (drop l.at l.line)) ≡ with_words l.initial.t (words (drop l.from l.line)))
-
-abbrev pub decreases-loop-t : goal.decreases-loop-t
-decreases-loop-t l = length l.line - l.at
+abbrev pub invariant-loop-word : goal.invariant-loop-word
+invariant-loop-word l =
+    (l.t.count + length (words_left l.word-iterator) ≤ l.initial.t.count + length (words_left l.fn.words))
+    × (with_words l.t (words_left l.word-iterator) ≡ with_words l.initial.t (words_left l.fn.words))

@@ -1,18 +1,18 @@
--- `typed::read` meets its contract: what the words before the comment say. Assumes nothing.
-use mathlib.Core.Path.{◌≡◌, ap, ◌∙◌}
-use Prim.Native.Nat.{ℕ, ◌-◌}
-use native.Mathlib.Omega.{arith}
-use lib.ListN.{take}
-use Rattle.typed.specs.Reading.{of_words, reading}
-use Rattle.typed.specs.Words.{comment_at, words}
-use Rattle.typed.proofs.Runs.{comment_le}
+-- `typed::read` meets its contract: what the words before the comment say (Lines). Assumes nothing.
+use Rattle.std.proofs.Common.{◌<◌, ◌^◌, ap, arith, rules, length}
+use Rattle.typed.specs.declared.Typed.{Typed}
+use Rattle.typed.proofs.Lines.{no_word, a_verb, few_words}
 use Rattle.typed.proofs.read.Goals as goal
 
-pub slice_bounds-of_words-end : goal.slice_bounds-of_words-end
-slice_bounds-of_words-end c = omega (arith, c.comment_at.ensures, comment_le c.args.line.now)
+pub arguments-requires : goal.arguments-requires
+arguments-requires c =
+    let few = few_words c.args.line.now _ _ c.uncommented.ensures c.new-words.ensures in
+    let bound : length c.args.line.now < 2 ^ 64 = search rules in
+    omega (arith, few, bound, ap length c.in-Some.ensures.steps, ap (λ (x : Typed). x.count) c.begun.ensures)
 
-pub returns : goal.returns
-unfolding reading
-returns c = let k = c.comment_at in let s = c.args.line.now in
-    let e : k.result - 0 ≡ comment_at s = omega (arith, k.ensures) in
-    c.of_words.ensures ∙ ap (λ (n : ℕ). of_words (words (take n s))) e
+pub returns-in-Some : goal.returns-in-Some
+returns-in-Some c =
+    a_verb _ _ _ c.uncommented.ensures c.new-words.ensures _ _ _ _ _ c.in-Some.ensures.steps c.verb_of.ensures c.begun.ensures c.arguments.ensures
+
+pub returns-in-None : goal.returns-in-None
+returns-in-None c = no_word _ _ _ c.uncommented.ensures c.new-words.ensures _ c.in-None.ensures.steps.0 c.begun-in-None.ensures

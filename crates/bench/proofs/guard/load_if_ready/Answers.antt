@@ -3,7 +3,7 @@
 use mathlib.Core.Path.{◌≡◌, refl, ap, ◌∙◌}
 use mathlib.Core.List.{List, [], ◌∷◌}
 use Prim.Native.Nat.{ℕ, zero, suc}
-use lib.Dec.{leb}
+use Rattle.std.specs.Prelude.{is_some}
 use lib.ListN.{length, get_or}
 use mir.Val.{Val}
 use denote.Shadow.{shadow}
@@ -15,9 +15,10 @@ use Rattle.rules.specs.contracts.Object as ObjectField
 use Rattle.rules.specs.contracts.Entries as EntriesField
 use Rattle.rules.specs.contracts.Ring as RingField
 use Rattle.laws.specs.Shape.{Sized}
-use Rattle.shape.proofs.Clauses.{told_apart, load_told}
+use Rattle.rules.specs.Shape.{in_shape}
+use Rattle.rules.proofs.Tables.{by_test}
+use Rattle.shape.proofs.Clauses.{told_apart, load_told, none_told}
 use Rattle.engine.proofs.Ready.{shape_ready}
-use Rattle.bench.proofs.Calls.{shaped}
 use Rattle.bench.proofs.guard.load_if_ready.Goals as goal
 
 -- what the types say of each record of an array holds of each, also past its end if it holds of the default
@@ -46,5 +47,7 @@ returns c =
     }) in
     let b = c.args.b in
     let e = c.load_in_shape.ensures in
-    let t = ap (λ (n : ℕ). leb n 64) e ∙ told_apart b in
-    (t, λ h. let s = shaped _ _ t h in (shape_ready b (sized) s, e ∙ load_told b s))
+    record {
+      shape = ap is_some e ∙ told_apart b;
+      ready = by_test (in_shape b) (λ t. rw (e, load_told b t) (shape_ready b sized t, refl)) (λ t. rw (e, none_told b t) tt);
+    }

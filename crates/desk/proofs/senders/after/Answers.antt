@@ -1,6 +1,6 @@
 -- `after` meets its contract: those that were sent are marked. Assumes nothing.
+use Rattle.std.proofs.Common.{◌∙◌}
 use Rattle.desk.proofs.Sending.{marked_sent}
-use mathlib.Core.Path.{◌∙◌}
 use Rattle.desk.proofs.senders.after.Goals as goal
 
 pub returns : goal.returns

@@ -1,7 +1,9 @@
--- `marked` meets its contract. The invariant: the places passed are filled. The measure is the places left. Assumes nothing.
-use Rattle.desk.proofs.Sending.{marked_all}
-use borrow.Author.Rules.{rules}
+-- `marked` meets its contract: place by place. Assumes nothing.
+use Rattle.std.proofs.Common.{rules}
+use Rattle.typed.proofs.Filling.{made_row}
+use Rattle.desk.specs.Senders.{marked_at, marked}
 use Rattle.desk.proofs.senders.marked.Goals as goal
 
 pub returns : goal.returns
-returns c = marked_all c.args.senders c.args.set c.args.node c.loop-i.r c.loop-i.i (search rules) c.loop-i.invariant.1
+unfolding marked
+returns c = let a = c.args in made_row _ _ (marked_at a.senders a.set a.node) (λ i y q called. search rules) _ _ c.from_fn.ensures.items

@@ -8,6 +8,3 @@ use Rattle.engine.proofs.grants.grant_rest.Given as goal
 
 abbrev pub invariant-loop-k : goal.invariant-loop-k
 invariant-loop-k l = (l.granted ≤ 16) × (send_grants l.b l.o (places_from l.book l.k (l.granted - l.k)) ≡ send_grants l.initial.b l.o (places_from l.book 1 (l.granted - 1)))
-
-abbrev pub decreases-loop-k : goal.decreases-loop-k
-decreases-loop-k l = l.granted - l.k

@@ -1,59 +1,35 @@
--- `add_ahead` meets its contract. The loop's invariant: those who bar at the first i places are added, and the marks are those of the list.
-use borrow.Author.Tests.{not-true, not-false}
-use mathlib.Core.Path.{◌≡◌, sym, ◌∙◌, ap}
-use native.Mathlib.Omega.{arith}
-use Rattle.rules.specs.Book.{bars, who_at, ahead}
-use Rattle.lists.proofs.Turns.{Passes, gathered_none, gathered_fails, gathered_marked, gathered_full, gathered_longer}
-use borrow.Author.Rules.{rules}
-use mathlib.Core.Path.{ap}
-use mathlib.Core.Bool.{not}
+-- One who bars and is not marked is added; nobody else changes the list.
+use Rattle.std.proofs.Common.{◌≡◌, sym, ◌∙◌, arith}
+use Rattle.rules.specs.Book.{ahead}
+use Rattle.lists.proofs.Turns.{barred_passes, barred_not, gathered_none, gathered_fails, gathered_marked, gathered_unlisted, gathered_one}
 use Rattle.lists.proofs.gather.add_ahead.Goals as goal
+use Rattle.lists.proofs.gather.add_ahead.Goals.{then-is_barred+then-not-has, else-is_barred, else-is_barred-via-then-is_barred+else-not-has, else-is_barred-via-else-is_barred}
 
 pub loop-i-init : goal.loop-i-init
-loop-i-init c = (omega arith, c.requires.1, gathered_none _ _ _ _ _ (search rules) c.requires.2)
+loop-i-init c = gathered_none _ _ _ _ _ c.requires.0 c.requires.1
 
-pub loop-i-preserved-then-not-bars : goal.loop-i-preserved-then-not-bars
-loop-i-preserved-then-not-bars c =
-    let answered : (let a = c.args in bars a.o a.p a.m c.loop-i.i ≡ c.bars.result) = rw c.wide-at.ensures.0 at (sym c.bars.ensures) in
-    let v = c.loop-i in
-    (omega arith, v.invariant.1, gathered_fails _ _ _ _ _ _ _ v.invariant.2 (answered ∙ not-true _ (ap not c.if-not-bars.true)))
-
-pub loop-i-preserved-then-has : goal.loop-i-preserved-then-has
-loop-i-preserved-then-has c =
-    let answered : (let a = c.args in bars a.o a.p a.m c.loop-i.i ≡ c.bars.result) = rw c.wide-at.ensures.0 at (sym c.bars.ensures) in
-    let barring : (let v = c.loop-i in let a = c.args in Passes (bars a.o a.p a.m) (who_at a.o) v.i (who_at a.o c.wide-at.result)) = record {
-      is = rw c.wide-at.ensures.0;
-      passes = answered ∙ not-false _ (ap not c.if-not-bars.false);
-      small = omega (arith, c.requires.0.who c.wide-at.result);
-    } in
-    let v = c.loop-i in
-    (omega arith, v.invariant.1, gathered_marked _ _ _ _ _ _ _ v.invariant.2 _ (barring) (sym c.has.ensures ∙ c.if-has.true))
-
-pub loop-i-preserved-then-n-ge16 : goal.loop-i-preserved-then-n-ge16
-loop-i-preserved-then-n-ge16 c =
-    let answered : (let a = c.args in bars a.o a.p a.m c.loop-i.i ≡ c.bars.result) = rw c.wide-at.ensures.0 at (sym c.bars.ensures) in
-    let barring : (let v = c.loop-i in let a = c.args in Passes (bars a.o a.p a.m) (who_at a.o) v.i (who_at a.o c.wide-at.result)) = record {
-      is = rw c.wide-at.ensures.0;
-      passes = answered ∙ not-false _ (ap not c.if-not-bars.false);
-      small = omega (arith, c.requires.0.who c.wide-at.result);
-    } in
-    let v = c.loop-i in
-    (omega arith, v.invariant.1, gathered_full _ _ _ _ _ _ _ v.invariant.2 _ (barring) _ c.with-seen.ensures c.if-n-ge16.true)
+pub add_entry-requires : goal.add_entry-requires
+add_entry-requires c =
+    let a = c.args.at in
+    let here = barred_passes a.book a.process a.mode c.wide-ahead.result c.loop-i.i c.loop-i-test.true c.is_barred.ensures a.in_range.0 c.if-is_barred.true in
+    gathered_unlisted _ _ _ _ _ _ _ c.loop-i.invariant _ here (sym c.has.ensures ∙ c.if-not-has.true)
 
 pub loop-i-preserved : goal.loop-i-preserved
 loop-i-preserved c =
-    let answered : (let a = c.args in bars a.o a.p a.m c.loop-i.i ≡ c.bars.result) = rw c.wide-at.ensures.0 at (sym c.bars.ensures) in
-    let barring : (let v = c.loop-i in let a = c.args in Passes (bars a.o a.p a.m) (who_at a.o) v.i (who_at a.o c.wide-at.result)) = record {
-      is = rw c.wide-at.ensures.0;
-      passes = answered ∙ not-false _ (ap not c.if-not-bars.false);
-      small = omega (arith, c.requires.0.who c.wide-at.result);
-    } in
-    let v = c.loop-i in
-    (omega arith, v.invariant.1, gathered_longer _ _ _ _ _ _ _ v.invariant.2 _ (barring) _ c.with-seen.ensures c.wide-end.result c.wide-end.ensures.0 c.if-n-ge16.false (sym c.has.ensures ∙ c.if-has.false))
+    let a = c.args.at in
+    let v = c.loop-i.invariant in
+    let here = barred_passes a.book a.process a.mode c.wide-ahead.result c.loop-i.i c.loop-i-test.true c.is_barred.ensures a.in_range.0 in
+    elim c.if-is_barred.branch [
+      | then-is_barred+then-not-has w ↦ gathered_one _ _ _ _ _ _ _ v _ (here w.if-is_barred.true) _ _ (w.l-is ∙ w.add_entry.ensures) (w.seen-is ∙ w.with-seen.ensures)
+      | else-is_barred w ↦ rw (w.l-is, w.seen-is) (elim w.else-is_barred.branch [
+        | else-is_barred-via-then-is_barred+else-not-has x ↦ gathered_marked _ _ _ _ _ _ _ v _ (here x.if-is_barred.true) (sym x.has.ensures ∙ x.if-not-has.false)
+        | else-is_barred-via-else-is_barred x ↦ gathered_fails _ _ _ _ _ _ _ v (barred_not a.book a.process a.mode _ _ c.loop-i-test.true c.is_barred.ensures x.if-is_barred.false)
+      ])
+    ]
 
 pub returns : goal.returns
 unfolding ahead
 returns c =
     let v = c.loop-i in
-    let e : v.i ≡ c.args.k = omega arith in
-    rw e at v.invariant.2.is
+    let e : v.i ≡ c.args.at.place = omega (arith, c.wide-ahead.ensures.0, c.args.at.in_range.0.size, c.args.at.in_range.2) in
+    rw e at v.invariant.is

@@ -1,28 +1,26 @@
--- `add_unmarked` meets its contract: a holder who is marked is listed, so leaving it out adds the same.
-use mathlib.Core.Path.{◌≡◌, sym, ◌∙◌}
-use Rattle.lists.proofs.Waited.{unmarked_fresh, unmarked_added, unmarked_marks}
-use native.Mathlib.Omega.{arith}
-use lib.ListN.{length}
+-- A holder who is marked is listed, so leaving it out adds the same.
+use Rattle.std.proofs.Common.{sym, ap, ◌∙◌, length}
+use Rattle.rules.specs.declared.Entries.{Entries}
 use Rattle.rules.specs.Book.{rival, rivals, waited_for}
+use Rattle.rules.proofs.Lists.{add_all_grown}
+use Rattle.lists.proofs.Waited.{unmarked_fresh, unmarked_added, unmarked_marks}
 use Rattle.lists.proofs.Gathering.{add_both}
-use borrow.Author.Rules.{rules}
 use Rattle.lists.proofs.gather.add_unmarked.Goals as goal
 
-pub add_set-held-requires : goal.add_set-held-requires
-add_set-held-requires c =
+pub add_set-requires : goal.add_set-requires
+add_set-requires c =
     let a = c.args in
-    let z : length a.l.who ≡ 16 = search rules in
-    unmarked_fresh a.l a.lead (rival a.o a.p a.m) a.marks c.rivals.result z c.ranges.marks.fits c.requires.3 c.rivals.ensures
+    (c.requires.0, unmarked_fresh a.l.now a.lead (rival a.at.book a.at.process a.at.mode) a.marks c.rivals.result c.requires.0 c.ranges.marks.fits c.requires.1 c.rivals.ensures)
 
 pub add_ahead-requires : goal.add_ahead-requires
 add_ahead-requires c =
-    let a = c.args in
-    let z : length a.l.who ≡ 16 = search rules in
-    (c.requires.0, omega (arith, c.requires.2), unmarked_marks a.l a.lead (rival a.o a.p a.m) a.marks c.rivals.result z c.ranges.marks.fits c.requires.3 c.rivals.ensures c.add_set-held.result c.add_set-held.ensures)
+    let a = c.args in (
+      ap (λ (x : Entries). length x.who) c.add_set.ensures ∙ (add_all_grown a.l.now a.lead _).who_size ∙ c.requires.0,
+      unmarked_marks a.l.now a.lead (rival a.at.book a.at.process a.at.mode) a.marks c.rivals.result c.requires.0 c.ranges.marks.fits c.requires.1 c.rivals.ensures _ c.add_set.ensures,
+    )
 
 pub returns : goal.returns
 unfolding waited_for rivals
 returns c =
     let a = c.args in
-    let z : length a.l.who ≡ 16 = search rules in
-    c.add_ahead.ensures ∙ rw (c.add_set-held.ensures, unmarked_added a.l a.lead (rival a.o a.p a.m) a.marks c.rivals.result z c.ranges.marks.fits c.requires.3 c.rivals.ensures) (sym (add_both a.l a.lead _ _))
+    c.add_ahead.ensures ∙ rw (c.add_set.ensures, unmarked_added a.l.now a.lead (rival a.at.book a.at.process a.at.mode) a.marks c.rivals.result c.requires.0 c.ranges.marks.fits c.requires.1 c.rivals.ensures) (sym (add_both a.l.now a.lead _ _))

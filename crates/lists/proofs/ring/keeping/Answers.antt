@@ -7,6 +7,6 @@ pub returns-then-old-eq0 : goal.returns-then-old-eq0
 unfolding keeping
 returns-then-old-eq0 c = rw (eq-eqb _ _ c.if-old-eq0.true)
 
-pub returns : goal.returns
+pub returns-else-old-eq0 : goal.returns-else-old-eq0
 unfolding keeping
-returns c = rw (ne_eqb _ _ c.if-old-eq0.false)
+returns-else-old-eq0 c = rw (ne_eqb _ _ c.if-old-eq0.false)

@@ -1,5 +1,5 @@
 -- `reader::command::sixteen` meets its contract: two whole bytes. Assumes nothing.
-use native.Mathlib.Omega.{arith}
+use Rattle.std.proofs.Common.{arith}
 use Rattle.reader.proofs.Fields.{two_bytes}
 use Rattle.reader.proofs.command.sixteen.Goals as goal
 

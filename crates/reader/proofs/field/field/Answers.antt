@@ -1,6 +1,6 @@
 -- `reader::field::field` meets its contract: of the three bytes from its first bit's byte on, the bits below the field are shifted out
 -- and those above it are masked. Assumes nothing.
-use native.Mathlib.Omega.{arith}
+use Rattle.std.proofs.Common.{arith}
 use Rattle.reader.proofs.Fields.{field_of_bytes}
 use Rattle.reader.proofs.field.field.Goals as goal
 

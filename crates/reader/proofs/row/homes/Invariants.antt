@@ -1,11 +1,7 @@
--- `reader::row::homes` meets its contract. The invariant: the row holds the homes passed, and zeros. Assumes nothing.
-use mathlib.Core.Path.{◌≡◌}
-use Prim.Native.Nat.{◌-◌, ◌≤◌}
-use Rattle.rules.specs.Sheet.{homes_from}
+-- The homes passed stand in the row.
+use Rattle.std.proofs.Common.{◌≡◌, ◌+◌, ◌*◌, ◌<◌, length, get_or, ℕ}
+use Rattle.rules.specs.Sheet.{field}
 use Rattle.reader.proofs.row.homes.Given as goal
 
 abbrev pub invariant-loop-k : goal.invariant-loop-k
-invariant-loop-k l = (l.row ≡ homes_from l.s l.at l.k) × (l.k ≤ l.n)
-
-abbrev pub decreases-loop-k : goal.decreases-loop-k
-decreases-loop-k l = l.n - l.k
+invariant-loop-k l = (length l.home-items ≡ l.n) × ((j : ℕ) → j < l.k → get_or l.home-items j 0 ≡ field l.s (l.at + 3 * j) 3)

@@ -1,12 +1,12 @@
 -- `report::lines::last_line` meets its contract. Assumes nothing.
-use Rattle.std.proofs.Common.{rules}
+use Rattle.std.proofs.Common.{[], ◌∷◌}
+use Rattle.text.specs.Text.{bytes, decimal}
 use Rattle.printed.proofs.Lines.{last_parts}
-use Rattle.text.proofs.Text.{wrote_as, wrote_then}
+use Rattle.text.proofs.Text.{added_five}
 use Rattle.report.proofs.lines.last_line.Goals as goal
 
-pub returns : goal.returns
-returns c = (
-  wrote_as (last_parts _ c.in_flight.ensures.0 c.tally.ensures.0)
-      (wrote_then (wrote_then (wrote_then (wrote_then c.word-messages.ensures.0 c.number-counted.ensures.0) c.word-rings.ensures.0) c.number-tallied.ensures.0) c.put.ensures.0),
-  search rules,
-)
+pub returns-clause-text : goal.returns-clause-text
+returns-clause-text c =
+    added_five c.args.out.now.items (bytes "messages ") (decimal c.in_flight.result) c.word.ensures.0 c.number.ensures.0
+    (bytes " rings ") c.word-2.ensures.0 (decimal c.tally.result) c.number-2.ensures.0 (10 ∷ []) c.put.ensures.0
+    (last_parts _ c.in_flight.ensures.0 c.tally.ensures.0)

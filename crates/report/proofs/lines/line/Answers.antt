@@ -1,14 +1,22 @@
 -- `report::lines::line` meets its contract: each place of the line has its entry. Assumes nothing.
-use Rattle.std.proofs.Common.{rules, arith}
-use Rattle.printed.proofs.Lines.{no_rows, rows_next, line_whole}
-use Rattle.text.proofs.Text.{at_most_is, wrote_none, wrote_as, wrote_then}
+use Rattle.std.proofs.Common.{Bool, ap₂, arith, ℕ, ◌∷◌, [], length-take}
+use Rattle.rules.specs.Book.{mode_if}
+use Rattle.text.specs.Text.{after_spaces}
+use Rattle.printed.specs.Lines.{entry}
+use Rattle.printed.proofs.Lines.{no_rows, rows_added, line_whole, first_at}
+use Rattle.text.proofs.Text.{at_most_is, added_none, added_as}
 use Rattle.report.proofs.lines.line.Goals as goal
 
 pub loop-k-init : goal.loop-k-init
-loop-k-init c = (search rules, wrote_as (no_rows _) wrote_none)
+loop-k-init c = record { room = omega arith; text = added_none _ (no_rows _) }
 
 pub loop-k-preserved : goal.loop-k-preserved
-loop-k-preserved c = (search rules, wrote_as (rows_next _ _) (wrote_then c.loop-k.invariant.1 c.waiter-end.ensures.0))
+loop-k-preserved c = record {
+  room = omega arith;
+  text = rows_added _ _ _ c.loop-k.invariant.text
+      (added_as _ (ap₂ (λ (x : ℕ) (m : Bool). after_spaces (entry x (mode_if m) ∷ [])) (first_at _ c.args.o.now.line c.loop-k.k _ _ c.loop-k-test.true) c.has.ensures) c.entry.ensures.text);
+}
 
-pub returns : goal.returns
-returns c = (wrote_as (line_whole c.args.o (at_most_is 16 (omega arith) c.at_most-n.ensures.0 c.wide.ensures.0)) c.loop-k.invariant.1, search rules)
+pub returns-clause-text : goal.returns-clause-text
+returns-clause-text c =
+    added_as _ (line_whole c.args.o.now (at_most_is 16 (omega (arith, length-take {A = ℕ})) c.at_most-n.ensures.0 c.wide.ensures.0)) c.loop-k.invariant.text

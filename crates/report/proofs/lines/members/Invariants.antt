@@ -1,9 +1,12 @@
--- The places that were passed have their numbers.
-use Rattle.std.proofs.Common.{◌+◌, ◌*◌, ◌≤◌, get_or}
+-- The processes that were passed have their numbers.
+use Rattle.std.proofs.Common.{◌≡◌, ◌+◌, ◌*◌, ◌≤◌, get_or}
+use Rattle.arrayvec.specs.ArrayVec.{array_vec_len, Extends}
 use Rattle.rules.specs.Tables.{rows}
-use Rattle.text.specs.Text.{Wrote, after_spaces, decimal}
+use Rattle.text.specs.Text.{after_spaces, decimal}
 use Rattle.report.proofs.lines.members.Given as goal
 
-abbrev pub invariant-loop-k : goal.invariant-loop-k
-invariant-loop-k l =
-    (l.end ≤ l.at + 5 * l.k) × Wrote l.initial.out l.at (after_spaces (rows l.k (λ j. decimal (get_or l.ring.processes j 0)))) l.out l.end
+abbrev pub invariant-loop-p : goal.invariant-loop-p
+invariant-loop-p l = record {
+  room : array_vec_len l.out ≤ array_vec_len l.initial.out + 5 * l.p-index;
+  text : Extends l.initial.out (after_spaces (rows l.p-index (λ j. decimal (get_or l.ring.processes j 0)))) l.out;
+}

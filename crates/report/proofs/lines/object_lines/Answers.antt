@@ -1,20 +1,21 @@
 -- `report::lines::object_lines` meets its contract: each object has its line. Assumes nothing.
-use Rattle.std.proofs.Common.{ap, rules, arith}
-use Rattle.sums.proofs.Sums.{read_at, length_mapped}
+use Rattle.std.proofs.Common.{ap, rules, arith, length-take}
+use Rattle.rules.specs.declared.Object.{Object}
 use Rattle.printed.specs.Lines.{object_line}
-use Rattle.printed.proofs.Lines.{objects_whole}
-use Rattle.text.proofs.Text.{no_lines, flat_next, at_most_is, wrote_none, wrote_as, wrote_then}
+use Rattle.printed.proofs.Lines.{objects_whole, first_at}
+use Rattle.text.proofs.Text.{at_most_is, page_none, page_next, added_as}
 use Rattle.report.proofs.lines.object_lines.Goals as goal
 
 pub loop-i-init : goal.loop-i-init
-loop-i-init c = (search rules, wrote_as (no_lines _) wrote_none)
+loop-i-init c = record { room = omega arith; text = page_none _ _ }
 
 pub loop-i-preserved : goal.loop-i-preserved
-loop-i-preserved c = (
-  search rules,
-  wrote_as (flat_next _ _)
-      (wrote_then c.loop-i.invariant.1 (wrote_as (ap (object_line c.loop-i.i) (read_at c.args.b.objects c.loop-i.i _ _ (search (rules, length_mapped)))) c.object_line-end.ensures.0)),
-)
+loop-i-preserved c = record {
+  room = omega arith;
+  text = page_next _ _ _ c.loop-i.invariant.text
+      (added_as _ (ap (object_line c.loop-i.i) (first_at _ c.args.b.now.objects c.loop-i.i _ _ c.loop-i-test.true)) c.object_line.ensures.text);
+}
 
-pub returns : goal.returns
-returns c = (wrote_as (objects_whole c.args.b (at_most_is 16 (omega arith) c.at_most-n.ensures.0 c.wide.ensures.0)) c.loop-i.invariant.1, search rules)
+pub returns-clause-text : goal.returns-clause-text
+returns-clause-text c =
+    added_as _ (objects_whole c.args.b.now (at_most_is 16 (omega (arith, length-take {A = Object})) c.at_most-n.ensures.0 c.wide.ensures.0)) c.loop-i.invariant.text

@@ -1,8 +1,11 @@
 -- `report::lines::refused_line` meets its contract: the word and the number. Assumes nothing.
-use Rattle.std.proofs.Common.{rules}
+use Rattle.std.proofs.Common.{[], ◌∷◌}
+use Rattle.text.specs.Text.{bytes, decimal}
 use Rattle.printed.proofs.Lines.{refused_parts}
-use Rattle.text.proofs.Text.{wrote_as, wrote_then}
+use Rattle.text.proofs.Text.{added_three}
 use Rattle.report.proofs.lines.refused_line.Goals as goal
 
-pub returns : goal.returns
-returns c = (wrote_as (refused_parts _ c.wide.ensures.0) (wrote_then (wrote_then c.word-named.ensures.0 c.number-numbered.ensures.0) c.put.ensures.0), search rules)
+pub returns-clause-text : goal.returns-clause-text
+returns-clause-text c =
+    added_three c.args.out.now.items (bytes "sheet ") (decimal c.from.result) c.word.ensures.0 c.number.ensures.0 (10 ∷ []) c.put.ensures.0
+    (refused_parts _ c.from.ensures)

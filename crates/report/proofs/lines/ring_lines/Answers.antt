@@ -1,20 +1,20 @@
 -- `report::lines::ring_lines` meets its contract: each starter has its line. Assumes nothing.
-use Rattle.std.proofs.Common.{ap, rules, arith}
-use Rattle.sums.proofs.Sums.{read_at, length_mapped}
+use Rattle.std.proofs.Common.{ap, arith, length-take}
+use Rattle.rules.specs.declared.Ring.{Ring}
 use Rattle.printed.specs.Lines.{ring_line}
-use Rattle.printed.proofs.Lines.{rings_whole}
-use Rattle.text.proofs.Text.{no_lines, flat_next, wrote_none, wrote_as, wrote_then}
+use Rattle.printed.proofs.Lines.{rings_whole, same_at}
+use Rattle.text.proofs.Text.{page_none, page_next, added_as}
 use Rattle.report.proofs.lines.ring_lines.Goals as goal
 
-pub loop-s-init : goal.loop-s-init
-loop-s-init c = (search rules, wrote_as (no_lines _) wrote_none)
+pub loop-ring-init : goal.loop-ring-init
+loop-ring-init c = record { room = omega arith; text = page_none _ _ }
 
-pub loop-s-preserved : goal.loop-s-preserved
-loop-s-preserved c = (
-  search rules,
-  wrote_as (flat_next _ _)
-      (wrote_then c.loop-s.invariant.1 (wrote_as (ap ring_line (read_at c.args.b.rings c.loop-s.s _ _ (search (rules, length_mapped)))) c.ring_line-end.ensures.0)),
-)
+pub loop-ring-preserved : goal.loop-ring-preserved
+loop-ring-preserved c = record {
+  room = omega arith;
+  text = page_next _ _ _ c.loop-ring.invariant.text
+      (added_as _ (ap ring_line (same_at c.args.b.now.rings c.loop-ring.ring-index _ _ c.loop-ring-test.true)) c.ring_line.ensures.text);
+}
 
-pub returns : goal.returns
-returns c = (wrote_as (rings_whole c.args.b (omega arith)) c.loop-s.invariant.1, search rules)
+pub returns-clause-text : goal.returns-clause-text
+returns-clause-text c = added_as _ (rings_whole c.args.b.now (omega (arith, length-take {A = Ring}))) c.loop-ring.invariant.text

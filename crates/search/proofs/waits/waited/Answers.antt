@@ -10,22 +10,20 @@ use Rattle.search.proofs.Sets.{gathered_none, gathered_more}
 use borrow.Author.Rules.{rules}
 use Rattle.search.proofs.waits.waited.Goals as goal
 
-pub loop-o-init : goal.loop-o-init
-loop-o-init c = let a = c.args in (omega arith, gathered_none (λ i q. waits_in (object_at a.b i) a.p q))
+pub loop-object-init : goal.loop-object-init
+loop-object-init c = let a = c.args in gathered_none (λ i q. waits_in (object_at a.b i) a.p q)
 
-pub loop-o-preserved : goal.loop-o-preserved
-loop-o-preserved c =
+pub loop-object-preserved : goal.loop-object-preserved
+loop-object-preserved c =
     let sizes : length c.args.b.objects ≡ 16 = search (rules, length_mapped) in
     let a = c.args in
-    let v = c.loop-o in
-    let l = sizes in (
-      omega arith,
-      rw add-one (gathered_more (λ i q. waits_in (object_at a.b i) a.p q) v.o _ v.invariant.1 _ (rw (read_at a.b.objects v.o _ no_object (omega arith)) at c.in_line-set.ensures)),
-    )
+    let v = c.loop-object in
+    rw add-one (gathered_more (λ i q. waits_in (object_at a.b i) a.p q) v.object-index _ v.invariant _ (rw (read_at a.b.objects v.object-index _ no_object (omega arith)) at c.in_line-set.ensures))
 
 pub returns : goal.returns
 unfolding waits_for
 returns c =
-    let v = c.loop-o in
-    let e : v.o ≡ 16 = omega arith in
-    rw e at v.invariant.1
+    let v = c.loop-object in
+    let sizes : length c.args.b.objects ≡ 16 = search (rules, length_mapped) in
+    let e : v.object-index ≡ 16 = omega arith in
+    rw e at v.invariant

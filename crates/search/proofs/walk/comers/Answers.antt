@@ -10,28 +10,27 @@ use Rattle.search.proofs.Numbers.{set_below}
 use Rattle.search.proofs.Walks.{begun_none, begun_more, begun_all, comers_first, comers_next}
 use Rattle.search.proofs.walk.comers.Goals as goal
 
-pub loop-k-init : goal.loop-k-init
-loop-k-init c =
+pub loop-after-init : goal.loop-after-init
+loop-after-init c =
     let f : ℕ → ℕ = λ j. set_of 16 (comes (arc c.args.sets) c.args.p j) in
-    (omega arith, c.with-set.ensures ∙ comers_first (arc c.args.sets) c.args.p c.requires, sym (begun_none 17 f))
+    (c.with-set.ensures ∙ comers_first (arc c.args.sets) c.args.p c.requires, sym (begun_none 17 f))
 
 pub waiters-set-requires : goal.waiters-set-requires
-waiters-set-requires c = rw c.loop-k.invariant.1 (set_below 16 _)
+waiters-set-requires c = rw c.loop-after.invariant.0 (set_below 16 _)
 
-pub loop-k-preserved : goal.loop-k-preserved
-loop-k-preserved c =
-    let v = c.loop-k in
+pub loop-after-preserved : goal.loop-after-preserved
+loop-after-preserved c =
+    let v = c.loop-after in
     let a = c.args in
     let f : ℕ → ℕ = λ j. set_of 16 (comes (arc a.sets) a.p j) in (
-      omega arith,
-      c.waiters-set.ensures ∙ rw add-one (comers_next a.sets a.p v.k v.set v.invariant.1),
-      rw (v.invariant.1, v.invariant.2, add-one) (begun_more 17 f v.k (omega arith)),
+      c.waiters-set.ensures ∙ rw add-one (comers_next a.sets a.p v.after-index v.set v.invariant.0),
+      rw (v.invariant.0, v.invariant.1, add-one) (begun_more 17 f v.after-index (omega arith)),
     )
 
 pub returns : goal.returns
 unfolding comers
 returns c =
-    let v = c.loop-k in
+    let v = c.loop-after in
     let a = c.args in
-    let e : v.k ≡ 17 = omega arith in
-    rw e at v.invariant.2 ∙ begun_all 17 (λ j. set_of 16 (comes (arc a.sets) a.p j))
+    let e : v.after-index ≡ 17 = omega arith in
+    rw e at v.invariant.1 ∙ begun_all 17 (λ j. set_of 16 (comes (arc a.sets) a.p j))

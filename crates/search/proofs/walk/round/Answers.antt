@@ -10,10 +10,10 @@ pub returns-then-has : goal.returns-then-has
 returns-then-has c =
     let v = c.loop-k in
     let a = c.args in
-    round_here (λ k. taken (get_or a.comers k 0) a.p) v.k v.invariant.0 (omega arith) v.invariant.2 (sym c.has.ensures ∙ c.if-has.true)
+    (round_here (λ k. taken (get_or a.comers k 0) a.p) v.k (omega arith) (omega arith) v.invariant (sym c.has.ensures ∙ c.if-has.true), omega arith)
 
 pub returns : goal.returns
 returns c =
     let v = c.loop-k in
     let a = c.args in
-    round_none (λ k. taken (get_or a.comers k 0) a.p) v.k (omega arith) v.invariant.2
+    sym (round_none (λ k. taken (get_or a.comers k 0) a.p) v.k (omega arith) v.invariant)

@@ -1,24 +1,17 @@
--- Each set lies below the count, and the two have no number in common. Assumes nothing.
-use mathlib.Core.Bool.{not}
-use mathlib.Core.Path.{ap}
+-- The two sets have no number in common, where each lies below the count. Assumes nothing.
+use mathlib.Core.Path.{sym, ◌∙◌}
 use Rattle.rules.specs.Shape.{holds_fit}
-use Rattle.shape.proofs.Tests.{refuses, allows, passed, set_below, disjoint}
+use Rattle.rules.proofs.Tables.{true_not_false}
+use Rattle.shape.proofs.Tests.{onward, set_below, disjoint}
 use Rattle.shape.proofs.book.holds_fit.Goals as goal
+use Rattle.shape.proofs.book.holds_fit.Goals.{then-set_fits, else-set_fits}
 
-pub returns-then-not-set_fits : goal.returns-then-not-set_fits
+pub returns-then-set_fits-2 : goal.returns-then-set_fits-2
 unfolding holds_fit
-returns-then-not-set_fits c = refuses _ _ _ c.set_fits.ensures (ap not c.if-not-set_fits.true)
-
-pub returns-then-not-set_fits-2 : goal.returns-then-not-set_fits-2
-unfolding holds_fit
-returns-then-not-set_fits-2 c =
-    allows _ _ _ _ c.set_fits.ensures (ap not c.if-not-set_fits.false) (refuses _ _ _ c.set_fits-2.ensures (ap not c.if-not-set_fits-2.true))
-
-pub returns : goal.returns
-unfolding holds_fit
-returns c =
-    let a = c.args in
-    let below = set_below a.shared a.c c.requires (passed _ _ c.set_fits.ensures (ap not c.if-not-set_fits.false)) in
-    allows _ _ _ _ c.set_fits.ensures (ap not c.if-not-set_fits.false)
-    (allows _ _ _ _ c.set_fits-2.ensures (ap not c.if-not-set_fits-2.false)
-    (disjoint a.shared a.exclusive below))
+returns-then-set_fits-2 c = elim c.if-set_fits.branch [
+  | then-set_fits w ↦
+      let a = c.args in
+      let shared = sym c.set_fits.ensures ∙ w.if-set_fits.true in
+      onward _ _ _ shared (onward _ _ _ (sym w.set_fits-then-set_fits.ensures ∙ sym w.value-is ∙ c.if-set_fits-2.true) (disjoint a.shared a.exclusive (set_below a.shared a.c c.requires shared)))
+  | else-set_fits w ↦ absurd (true_not_false (sym c.if-set_fits-2.true ∙ w.value-is ∙ w.if-set_fits.false))
+]

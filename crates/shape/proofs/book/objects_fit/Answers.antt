@@ -13,7 +13,7 @@ use Rattle.shape.proofs.book.objects_fit.Goals as goal
 
 pub loop-o-init : goal.loop-o-init
 unfolding all
-loop-o-init c = (omega arith, refl)
+loop-o-init c = refl
 
 pub returns-then-not-object_fits : goal.returns-then-not-object_fits
 returns-then-not-object_fits c =
@@ -33,4 +33,4 @@ loop-o-preserved c =
     let l = sizes in
     read_fits object_fits a.books v.o _ _ _ _ _ _ _ (omega arith) c.object_fits.ensures c.up_to.ensures c.wide-end.ensures.0 in
     let v = c.loop-o in
-    (omega arith, goes_on v.o _ _ v.invariant.1 (one) (ap not c.if-not-object_fits.false))
+    goes_on v.o _ _ v.invariant (one) (ap not c.if-not-object_fits.false)

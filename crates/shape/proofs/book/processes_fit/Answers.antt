@@ -13,7 +13,7 @@ use Rattle.shape.proofs.book.processes_fit.Goals as goal
 
 pub loop-p-init : goal.loop-p-init
 unfolding all
-loop-p-init c = (omega arith, refl)
+loop-p-init c = refl
 
 pub returns-then-not-process_fits : goal.returns-then-not-process_fits
 returns-then-not-process_fits c =
@@ -33,4 +33,4 @@ loop-p-preserved c =
     let l = sizes in
     read_fits process_fits a.books v.p _ _ _ _ _ _ _ (omega arith) c.process_fits.ensures c.up_to.ensures c.wide-end.ensures.0 in
     let v = c.loop-p in
-    (omega arith, goes_on v.p _ _ v.invariant.1 (one) (ap not c.if-not-process_fits.false))
+    goes_on v.p _ _ v.invariant (one) (ap not c.if-not-process_fits.false)

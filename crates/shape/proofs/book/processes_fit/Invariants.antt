@@ -1,6 +1,5 @@
 -- Every process passed fits. Assumes nothing.
 use mathlib.Core.Path.{◌≡◌}
-use Prim.Native.Nat.{◌≤◌, ◌-◌}
 use mathlib.Core.Bool.{true}
 use lib.ListN.{get_or}
 use Rattle.rules.specs.Tables.{all}
@@ -9,7 +8,4 @@ use Rattle.rules.specs.Shape.{process_fits, up_to}
 use Rattle.shape.proofs.book.processes_fit.Given as goal
 
 abbrev pub invariant-loop-p : goal.invariant-loop-p
-invariant-loop-p l = (l.p ≤ 16) × (all l.p (λ q. process_fits (get_or l.books q no_process) (up_to q l.pc l.oc)) ≡ true)
-
-abbrev pub decreases-loop-p : goal.decreases-loop-p
-decreases-loop-p l = 16 - l.p
+invariant-loop-p l = all l.p (λ q. process_fits (get_or l.fn.books q no_process) (up_to q l.pc l.oc)) ≡ true

@@ -1,42 +1,27 @@
--- Every message passed fits. Assumes nothing.
+-- The test of each message, with its number and its list. Assumes nothing.
 use borrow.Author.Rules.{rules}
+use borrow.Author.Tests.{tests}
+use mathlib.Core.Path.{◌≡◌, ◌∙◌}
+use mathlib.Core.Bool.{◌&&◌}
 use Prim.Native.Nat.{ℕ}
-use mathlib.Core.Path.{◌≡◌, refl, ◌∙◌, ap}
-use native.Mathlib.Omega.{arith}
-use mathlib.Core.Bool.{◌&&◌, not}
-use lib.ListN.{length, get_or}
-use Rattle.rules.specs.Tables.{all}
-use Rattle.sums.proofs.Sums.{length_mapped}
-use Rattle.shape.proofs.Tests.{ends_table, goes_on, read_message}
+use lib.ListN.{length}
+use Rattle.std.proofs.lemmas.Iterator.{YieldsList-from_slice, YieldsList-from_zip}
+use Rattle.std.proofs.lemmas.Iterator.Consumers.{YieldsList-from_enumerate}
+use Rattle.std.proofs.lemmas.Iterator.Search.{all_from_yields_List}
+use Rattle.rules.specs.declared.Flight.{Flight}
+use Rattle.rules.specs.declared.Entries.{Entries}
 use Rattle.rules.specs.Bits.{taken, digit}
 use Rattle.rules.specs.Lists.{no_entries}
-use Rattle.rules.specs.Board.{is_message}
-use Rattle.rules.specs.Shape.{same, kind_fits}
-use Rattle.shape.specs.Stand.{kind_in}
+use Rattle.rules.specs.Board.{no_flight, is_message}
+use Rattle.rules.specs.Shape.{kind_fits, same}
+use Rattle.sums.proofs.Sums.{length_mapped}
+use Rattle.shape.proofs.Tabled.{paired}
 use Rattle.shape.proofs.message.messages_fit.Goals as goal
 
-pub loop-n-init : goal.loop-n-init
-unfolding all
-loop-n-init c = (omega arith, refl)
-
-pub returns-then-not-message_fits : goal.returns-then-not-message_fits
-unfolding digit taken
-returns-then-not-message_fits c =
+pub returns : goal.returns
+unfolding taken digit
+returns c =
     let sizes : (length c.args.flights ≡ 64) × (length c.args.lists ≡ 64) = (search (rules, length_mapped), search (rules, length_mapped)) in
-    let one : c.message_fits.result ≡ (λ (k : ℕ). let a = c.args in same (taken a.occupied k) (is_message (kind_in a.flights k)) && kind_fits (kind_in a.flights k) (get_or a.lists k no_entries) a.pc a.oc) c.loop-n.n = let a = c.args in
-    let v = c.loop-n in
-    let l = sizes in
-    c.message_fits.ensures ∙ read_message a.flights a.lists a.occupied a.pc a.oc v.n _ _ (omega arith) (omega arith) in
-    let v = c.loop-n in
-    ends_table 64 v.n _ _ (omega arith) (one) (ap not c.if-not-message_fits.true)
-
-pub loop-n-preserved : goal.loop-n-preserved
-unfolding digit taken
-loop-n-preserved c =
-    let sizes : (length c.args.flights ≡ 64) × (length c.args.lists ≡ 64) = (search (rules, length_mapped), search (rules, length_mapped)) in
-    let one : c.message_fits.result ≡ (λ (k : ℕ). let a = c.args in same (taken a.occupied k) (is_message (kind_in a.flights k)) && kind_fits (kind_in a.flights k) (get_or a.lists k no_entries) a.pc a.oc) c.loop-n.n = let a = c.args in
-    let v = c.loop-n in
-    let l = sizes in
-    c.message_fits.ensures ∙ read_message a.flights a.lists a.occupied a.pc a.oc v.n _ _ (omega arith) (omega arith) in
-    let v = c.loop-n in
-    (omega arith, goes_on v.n _ _ v.invariant.1 (one) (ap not c.if-not-message_fits.false))
+    let test = λ (x : ℕ × (Flight × Entries)). same (taken c.args.occupied x.0) (is_message x.1.0.kind) && kind_fits x.1.0.kind x.1.1 c.args.pc c.args.oc in
+    all_from_yields_List test c.all.new.self _ _ c.all.ensures.ran (YieldsList-from_enumerate (YieldsList-from_zip (YieldsList-from_slice c.args.flights cc) (YieldsList-from_slice c.args.lists cc)) cc) (λ x b q k. search (rules, tests))
+    ∙ paired test c.args.flights c.args.lists no_flight no_entries 64 sizes.0 sizes.1

@@ -14,7 +14,7 @@ use Rattle.shape.proofs.ring.rings_fit.Goals as goal
 
 pub loop-s-init : goal.loop-s-init
 unfolding all
-loop-s-init c = (omega arith, refl)
+loop-s-init c = refl
 
 pub returns-then-not-ring_fits : goal.returns-then-not-ring_fits
 returns-then-not-ring_fits c =
@@ -34,4 +34,4 @@ loop-s-preserved c =
     let l = sizes in
     c.ring_fits.ensures ∙ ap (λ (r : Ring). ring_fits r v.s a.pc) (read_at a.rings v.s _ _ (omega arith)) in
     let v = c.loop-s in
-    (omega arith, goes_on v.s _ _ v.invariant.1 (one) (ap not c.if-not-ring_fits.false))
+    goes_on v.s _ _ v.invariant (one) (ap not c.if-not-ring_fits.false)

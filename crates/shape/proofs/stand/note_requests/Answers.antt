@@ -1,21 +1,25 @@
 -- The requests passed are noted, in order. Assumes nothing.
 use borrow.Author.Rules.{rules}
-use mathlib.Core.Path.{◌≡◌}
+use mathlib.Core.Path.{◌≡◌, refl, sym, ◌∙◌}
 use native.Mathlib.Omega.{arith}
 use lib.ListN.{length}
-use Rattle.shape.specs.Stand.{noted_requests}
+use Rattle.shape.specs.Stand.{each_noted}
 use Rattle.sums.proofs.Sums.{length_mapped}
-use Rattle.shape.proofs.Noted.{requests_more}
+use Rattle.shape.proofs.Noted.{each_more, each_stops, request_read}
 use Rattle.shape.proofs.stand.note_requests.Goals as goal
 
-pub loop-n-init : goal.loop-n-init
-unfolding noted_requests
-loop-n-init c = (omega arith, c.nobody_yet-now.ensures)
+pub loop-flight-init : goal.loop-flight-init
+unfolding each_noted
+loop-flight-init c = refl
 
-pub loop-n-preserved : goal.loop-n-preserved
-loop-n-preserved c =
+pub loop-flight-preserved : goal.loop-flight-preserved
+loop-flight-preserved c =
     let sizes : length c.args.flights ≡ 64 = search (rules, length_mapped) in
-    let a = c.args.flights in
-    let v = c.loop-n in
-    let l = sizes in
-    (omega arith, requests_more a v.n _ _ _ (omega arith) v.invariant.1 c.note_kind-now.ensures)
+    let v = c.loop-flight in
+    each_more _ _ _ v.standing v.invariant _ (request_read c.args.flights v.flight-index v.standing _ _ (omega arith) c.note_kind.ensures ∙ c.in_ok-standing.was)
+
+pub returns-in_err-standing : goal.returns-in_err-standing
+returns-in_err-standing c =
+    let sizes : length c.args.flights ≡ 64 = search (rules, length_mapped) in
+    let v = c.loop-flight in
+    c.from_residual.ensures ∙ sym (each_stops _ _ _ v.standing v.invariant _ (omega arith) (request_read c.args.flights v.flight-index v.standing _ _ (omega arith) c.note_kind.ensures ∙ c.in_err-standing.was))

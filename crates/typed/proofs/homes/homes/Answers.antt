@@ -1,7 +1,9 @@
--- `typed::homes::homes` meets its contract. The invariant: the places passed are filled. The measure is the places left. Assumes nothing.
-use borrow.Author.Rules.{rules}
-use Rattle.typed.proofs.Filling.{filled_all}
+-- `typed::homes::homes` meets its contract: place by place. Assumes nothing.
+use Rattle.std.proofs.Common.{◌+◌, rules}
+use Rattle.typed.specs.Homes.{number_at, homes}
+use Rattle.typed.proofs.Filling.{made_row}
 use Rattle.typed.proofs.homes.homes.Goals as goal
 
 pub returns : goal.returns
-returns c = filled_all c.args.row c.args.others c.loop-i.r c.loop-i.i (search rules) c.loop-i.invariant.1
+unfolding homes
+returns c = made_row _ _ (λ k. number_at c.args.row (3 + c.args.others + k)) (λ i y q called. search rules) _ _ c.from_fn.ensures.items

@@ -1,33 +1,23 @@
--- `typed::number::decimal` meets its contract. The loop's invariant: the digits left, after the number so far, read as all of them do;
--- the number so far is kept at most at the largest (`cut` of Decimals). The measure is what is left of the word. Assumes nothing.
-use mathlib.Core.Path.{◌≡◌, sym, ap, ◌∙◌}
-use Prim.Native.Nat.{min}
-use native.Mathlib.Omega.{arith}
-use borrow.Author.Rules.{rules}
-use Rattle.typed.specs.declared.Meaning.TheVariants.{Number}
-use Rattle.typed.specs.Numbers.{largest}
-use Rattle.typed.proofs.Decimals.{digit, digit_low, digit_high, cut, decimal_goes, decimal_stops, decimal_ends, decimal_none, decimal_some}
+-- `typed::number::decimal` meets its contract: a digit more for each byte (Decimals), and the number is kept at most at the largest
+-- (`cut`). Assumes nothing.
+use Rattle.std.proofs.Common.{◌∙◌, rules, sym, arith}
+use Rattle.typed.proofs.Decimals.{cut, decimal_none, decimal_some, decimal_goes, decimal_stops, decimal_ends}
 use Rattle.typed.proofs.number.decimal.Goals as goal
 
-pub returns-then-word-from : goal.returns-then-word-from
-returns-then-word-from c = sym (decimal_none _ _ c.if-word-from.true)
+pub returns-then-is_empty : goal.returns-then-is_empty
+returns-then-is_empty c = sym (decimal_none _ (search rules))
 
-pub loop-i-init : goal.loop-i-init
-loop-i-init c = let a = c.args in (search rules, search rules, decimal_some a.word.now a.from (search rules))
+pub loop-c-init : goal.loop-c-init
+loop-c-init c = (search rules, decimal_some _ c.if-is_empty.ensures)
 
-pub returns-then-c-lt48 : goal.returns-then-c-lt48
-returns-then-c-lt48 c = let w = c.args.word.now in
-    sym (sym c.loop-i.invariant.2 ∙ decimal_stops c.loop-i.n w c.loop-i.i (search rules) (digit_low _ (search rules)))
+pub returns-then-not-is_ascii_digit : goal.returns-then-not-is_ascii_digit
+returns-then-not-is_ascii_digit c =
+    sym (sym c.loop-c.invariant.1 ∙ decimal_stops c.loop-c.n _ c.loop-c.c-index c.loop-c-test.true c.if-not-is_ascii_digit.ensures.value)
 
-pub returns-then-c-gt57 : goal.returns-then-c-gt57
-returns-then-c-gt57 c = let w = c.args.word.now in
-    sym (sym c.loop-i.invariant.2 ∙ decimal_stops c.loop-i.n w c.loop-i.i (search rules) (digit_high _ (search rules)))
-
-pub loop-i-preserved : goal.loop-i-preserved
-loop-i-preserved c = let w = c.args.word.now in
-    (search rules, search rules, cut _ _ _ (omega arith) ∙ sym (decimal_goes c.loop-i.n w c.loop-i.i (search rules) (digit _ (search rules) (search rules))) ∙ c.loop-i.invariant.2)
+pub loop-c-preserved : goal.loop-c-preserved
+loop-c-preserved c =
+    let goes = decimal_goes c.loop-c.n c.args.word.now c.loop-c.c-index c.loop-c-test.true c.if-not-is_ascii_digit.ensures.value in
+    (search rules, cut _ _ _ (omega arith) ∙ sym goes ∙ c.loop-c.invariant.1)
 
 pub returns : goal.returns
-returns c = let w = c.args.word.now in
-    let e : min largest c.loop-i.n ≡ c.loop-i.n = omega arith in
-    sym (sym c.loop-i.invariant.2 ∙ decimal_ends c.loop-i.n w c.loop-i.i (search rules) ∙ ap Number e)
+returns c = sym (sym c.loop-c.invariant.1 ∙ decimal_ends c.loop-c.n _ c.loop-c.c-index c.loop-c.invariant.0 (search rules))

@@ -1,6 +1,5 @@
 -- `lowest` meets its contract: trailing zeros count the numbers before the lowest in the set.
-use mathlib.Core.Path.{sym}
-use native.Mathlib.Omega.{arith}
+use Rattle.std.proofs.Common.{sym, arith}
 use Rattle.rules.proofs.Bits.{lowest_taken_word, lowest_taken_le}
 use Rattle.values.proofs.bits.lowest.Goals as goal
 

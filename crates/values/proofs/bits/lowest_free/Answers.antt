@@ -1,6 +1,5 @@
 -- `lowest_free` meets its contract: the complement's trailing zeros count the numbers before the lowest free one.
-use mathlib.Core.Path.{sym}
-use native.Mathlib.Omega.{arith}
+use Rattle.std.proofs.Common.{sym, arith}
 use Rattle.rules.proofs.Bits.{lowest_free_word, lowest_free_le}
 use Rattle.values.proofs.bits.lowest_free.Goals as goal
 

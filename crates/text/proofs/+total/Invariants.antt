@@ -1,5 +1,0 @@
--- The number falls.
-use Rattle.text.proofs.+total.Given as goal
-
-abbrev pub decreases-total : goal.decreases-total
-decreases-total l = l.n

@@ -1,2 +1,0 @@
--- What the contracts say beside the rules.
-pub mod Numbers

@@ -1,9 +1,0 @@
--- `waits::at_node` is safe and ends. The loop counts the 16 objects. Assumes nothing.
-use Prim.Native.Nat.{◌≤◌, ◌-◌}
-use Rattle.waits.proofs.at_node.Given as goal
-
-abbrev pub invariant-loop-i : goal.invariant-loop-i
-invariant-loop-i l = l.i ≤ 16
-
-abbrev pub decreases-loop-i : goal.decreases-loop-i
-decreases-loop-i l = 16 - l.i
