@@ -27,7 +27,7 @@ pub fn command(t: Typed) -> Command
     }
 }
 
-// Without a budget: no board needs as many deliveries.
+// Without a budget 65,535, and no Option: the definition `budget` is this number, and no board needs as many deliveries.
 pub fn budget(t: Typed) -> usize
     ensures { result ≡ Asked.budget t }
 {

@@ -57,7 +57,7 @@ pub fn deliver(b: Board, n: u8) -> Stepped
     step(b, Command::Deliver(n))
 }
 
-// Nothing is run: the answer, no command, and the board that is given.
+// Nothing is run: the answer, no command, and the board that is given. `sheet` has one of its own: its board is always the board of zeros.
 fn refused(answer: Answer, board: Board) -> Ran
     ensures { result ≡ (Sheet.refused_run answer board []).ran }
 {

@@ -2,17 +2,9 @@
 #![tactic(auto)]
 
 use program::Source;
-use std::fs::File;
-use std::io::StdinLock;
 
-// What is read, by the argument; the text is what --help prints.
-fn started<'a>(
-    rt: &HostRuntime,
-    name: &'a mut [u8; 4096],
-) -> Option<Source<'a, StdinLock<'static>, File>> {
-    program::start(
-        rt,
-        b"board runs a packed sheet and prints what came of it.
+// What --help prints.
+const HELP: &str = "board runs a packed sheet and prints what came of it.
 
   ./board FILE      runs the sheet in the file
   ./board < FILE    runs the sheet on standard input, as ./board - does
@@ -27,14 +19,11 @@ found. For a sheet that is refused it prints sheet N, N being the answer.
 docs/SHEET.md explains the form of a packed sheet, and the answers in words.
 The exit status of ./board is 0, or 1 where something could not be read or
 written, or an argument is wrong; that is told on standard error.
-",
-        name,
-    )
-}
+";
 
 fn main(rt: HostRuntime) {
     let mut name = io::buffer();
-    let Some(Source { mut from, named }) = started(&rt, &mut name) else {
+    let Some(Source { mut from, named }) = program::start(&rt, HELP.as_bytes(), &mut name) else {
         return;
     };
     let mut sheet = io::large_buffer();

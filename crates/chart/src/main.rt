@@ -7,20 +7,12 @@ ghost use Rattle.term.specs.Feed.{ended};
 ghost use Rattle.charted.specs.Lines.{chart_lines};
 
 use program::{Errors, Source, Told};
-use std::fs::File;
-use std::io::StdinLock;
 use stream::screen;
 use term::Chart;
 use text::Page;
 
-// What is read, by the argument; the text is what --help prints.
-fn started<'a>(
-    rt: &HostRuntime,
-    name: &'a mut [u8; 4096],
-) -> Option<Source<'a, StdinLock<'static>, File>> {
-    program::start(
-        rt,
-        b"chart runs every sheet of a stream and prints how many came to what.
+// What --help prints.
+const HELP: &str = "chart runs every sheet of a stream and prints how many came to what.
 
   ./chart FILE      reads the stream in the file
   ./chart < FILE    reads the stream on standard input, as ./chart - does
@@ -53,10 +45,7 @@ At a terminal the sheets are counted on standard error while the stream is
 read; nothing of that stays. Where a read fails no line is printed.
 The exit status of ./chart is 0, or 1 where something could not be read or
 written, or an argument is wrong; that is told on standard error.
-",
-        name,
-    )
-}
+";
 
 // The stream has ended: the lines of its chart, and nothing else on the page.
 fn composed(out: &mut Page, chart: Chart)
@@ -74,7 +63,7 @@ fn show(rt: &(impl Print + Errors), chart: Chart) -> Result<(), Told> {
 fn main(rt: HostRuntime) {
     let terminal = screen::found(&rt);
     let mut name = io::buffer();
-    let Some(Source { mut from, named }) = started(&rt, &mut name) else {
+    let Some(Source { mut from, named }) = program::start(&rt, HELP.as_bytes(), &mut name) else {
         return;
     };
     let _ = match stream::whole(&rt, &mut from, terminal) {

@@ -1,5 +1,5 @@
 -- Laws of the lines of a chart: each by the parts that are put one after another behind what stands on the page. Assumes nothing.
-use Rattle.std.proofs.Common.{◌≡◌, refl, ap, List, [], ◌∷◌, ◌++◌, append_assoc, ◌∙◌, sym, ℕ, ◌+◌, ◌-◌, ◌≤◌, get_or, arith}
+use Rattle.std.proofs.Common.{◌≡◌, ap, List, [], ◌∷◌, ◌++◌, append_assoc, ◌∙◌, ℕ, ◌+◌, ◌-◌, ◌≤◌, get_or, arith}
 use mathlib.Core.List.{append-nil}
 use Rattle.text.specs.Text.{bytes, decimal, after_spaces, spaced, line_of, flat}
 use Rattle.text.proofs.Text.{page_next}

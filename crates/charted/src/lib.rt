@@ -1,4 +1,5 @@
-// The print of a chart: a line for each total, put on one page.
+// The print of a chart: a line for each total, put on one page. Each function says what room its text needs: the numbers differ, so no type
+// holds them.
 #![tactic(auto)]
 
 ghost use Rattle.std.specs.Prelude.{◌≡◌, ◌+◌, ◌<◌, ◌≤◌, length};
@@ -34,7 +35,7 @@ fn place_line(out: &mut Page, name: &[u8], table: &[u64; 17], k: usize)
     put(out, b'\n');
 }
 
-// The numbers that a sheet is refused with, rising.
+// The numbers that a sheet is refused with, rising: each is printed too, so it is a number and no place of the table alone.
 fn refused_lines(out: &mut Page, table: &[u64; 17])
     requires { array_vec_len out.old + 240 ≤ 65536 }
     ensures text { Extends out.old (refused_lines table.now) out.new }
@@ -45,7 +46,7 @@ fn refused_lines(out: &mut Page, table: &[u64; 17])
     }
 }
 
-// The lengths that a ring can have, rising.
+// The lengths that a ring can have, rising: a length is printed too, so it is a number and no place of the table alone.
 fn ring_lines(out: &mut Page, table: &[u64; 17])
     requires { array_vec_len out.old + 600 ≤ 65536 }
     ensures text { Extends out.old (ring_lines table.now) out.new }

@@ -16,6 +16,7 @@ use typed::{Typed, Verb};
 #[derive(Clone, Copy)]
 pub struct Desk {
     pub board: Board,
+    // A row beside the board's messages, which are the rules' and have no sender.
     pub senders: [u8; 64],
     pub command: Typed,
 }

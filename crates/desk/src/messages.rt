@@ -6,7 +6,7 @@ ghost use Rattle.desk.specs.Senders as Senders;
 use crate::senders::at;
 use rules::{Board, Entries, Kind};
 
-// A message of a kind, with its list's entries, goes to a home.
+// A message of a kind, with its list's entries, goes to a home; a place without a message to node 0, as the definition `goes_to` says.
 fn goes_to(kind: Kind, list: Entries, b: Board) -> u8
     ensures { result ≡ goes_to kind list b }
 {
@@ -20,7 +20,7 @@ fn goes_to(kind: Kind, list: Entries, b: Board) -> u8
     }
 }
 
-// The node at which message n arrives; node 0 where no message can have the number.
+// The node at which message n arrives; node 0, and no Option, where no message can have the number, as the definition `destination` says.
 pub fn arrives_at(b: Board, n: usize) -> u8
     ensures { result ≡ destination b n }
 {

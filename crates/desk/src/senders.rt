@@ -7,7 +7,8 @@ use rules::{Board, Command};
 use std::array;
 use values::bits::has;
 
-// The number at a place of a row of 16; 0 past its end.
+// The number at a place of a row of 16; 0 past its end, as the definition `goes_to` has it (get_or), so no Option. One call of the
+// library's own, as messages and reader have it too: a function in a crate below would say no more.
 pub fn at(row: [u8; 16], k: u8) -> u8
     ensures { result ≡ get_or row k 0 }
 {

@@ -25,6 +25,7 @@ pub fn grant_rest(start: Board, book: Object, o: u8, granted: u8) -> Board
 {
     let mut b = start;
     let none = values::message::no_entries();
+    // By place: the process and the mode of a place are both asked for.
     for k in 1..granted {
         let to = values::bits::lowest_free(b.occupied);
         // 64 is no number, as in the definition `lowest_free` of the rules.

@@ -1,5 +1,7 @@
 // A packed command, two bytes: its side, its answer, and what a request and a release do at home, by the kind's number. And whom a list
 // names: its starter, and the one that it asks next.
+// The two bytes come one by one, and in no record: they are locals of the engine's loop. That a list is ranged is asked of each call and
+// stands in no type: it comes from a board, which may hold it out of range.
 ghost use Rattle.std.specs.Prelude.{◌≡◌, ◌<◌, ◌+◌, ◌*◌, ◌/◌, ◌%◌, ltb};
 ghost use Rattle.rules.specs.declared.Answer.TheVariants.{Done, NoMessage};
 ghost use Rattle.rules.specs.Lists as Lists;

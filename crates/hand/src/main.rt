@@ -5,8 +5,7 @@ use desk::Follows;
 use lines::Lines;
 use program::{Errors, Source, Told};
 use session::Talk;
-use std::fs::File;
-use std::io::{Error, IsTerminal, Read, StdinLock};
+use std::io::{Error, IsTerminal, Read};
 use undo::Kept;
 
 // Why a session ends before its input: a write failed, which is told already, or a read did.
@@ -42,7 +41,8 @@ fn asked<I: Read>(
     Ok(line?)
 }
 
-// Each line is read, answered and done, and its desk put in its place, until the input ends or says quit.
+// Each line is read, answered and done, and its desk put in its place, until the input ends or says quit. A proved loop has to end, so its
+// turns are counted, up to a number that no input reaches. No heap: the 65 desks are an array, and a deque would keep them on one.
 fn each_line<I: Read + Drop>(mut talk: Talk<impl Print + Errors>, from: I) -> Result<(), Broken> {
     let mut lines = Lines::of(from);
     let mut room = [0u8; 1000];
@@ -69,14 +69,8 @@ fn each_line<I: Read + Drop>(mut talk: Talk<impl Print + Errors>, from: I) -> Re
     Ok(())
 }
 
-// What is read, by the argument; the text is what --help prints.
-fn started<'a>(
-    rt: &HostRuntime,
-    name: &'a mut [u8; 4096],
-) -> Option<Source<'a, StdinLock<'static>, File>> {
-    program::start(
-        rt,
-        b"hand steps a board by commands, one to a line, and says what each node can
+// What --help prints.
+const HELP: &str = "hand steps a board by commands, one to a line, and says what each node can
 know and what only the whole board shows.
 
   ./hand            at a terminal: each line is answered as it is typed
@@ -88,14 +82,11 @@ The command help lists the commands. open 3 3 2 opens a board of three nodes,
 three processes and two objects. exercises/lesson.md is a lesson to type.
 The exit status of ./hand is 0, or 1 where something could not be read or
 written.
-",
-        name,
-    )
-}
+";
 
 fn main(rt: HostRuntime) {
     let mut name = io::buffer();
-    let Some(Source { from, named }) = started(&rt, &mut name) else {
+    let Some(Source { from, named }) = program::start(&rt, HELP.as_bytes(), &mut name) else {
         return;
     };
     let talk = Talk::new(&rt, from.is_terminal());

@@ -11,7 +11,8 @@ use program::read_some;
 use std::io::{Error, ErrorKind};
 use text::keep;
 
-// A read failed: how many bytes had come, and why it failed.
+// A read failed: how many bytes had come, and why it failed. A type of its own, as stream has one: what had come differs, and the
+// definition `count_read` takes it.
 #[derive(Clone, Copy)]
 pub struct Broken {
     pub count: usize,
@@ -21,7 +22,8 @@ pub struct Broken {
 // Piece by piece, until the input ends or a read fails; how many bytes came. Its contract says that pieces were taken in and nothing else was
 // done; of a reader whose bytes are known (no file is one) also that they were those bytes, and, where no read failed, all of them. A proved
 // loop has to end, so it counts its turns, up to a number that no input reaches; one that did would count as failed, since its end was not
-// read.
+// read; below it the count of bytes fits its type. That count may pass the buffer's length, so what came is no slice of it. A loop of its own,
+// as stream has one: what a piece does to what was lent stands in each contract (`Pieces`, `chart_of`).
 pub fn whole<R: std::io::Read>(from: &mut R, first: &mut [u8; 65536]) -> Result<usize, Broken>
     ensures size { 65536 ≡ length first.new }
     ensures pieces { (w : List ℕ) × Pieces first.old w first.new (count_read result) × Consumes (R.remaining from.old) (R.remaining from.new) w }

@@ -1,7 +1,6 @@
 // The deliveries of a follow, each told with a write of its own: a drain is one delivery of the lowest number after another.
 use desk::Desk;
 use program::{Errors, Told};
-use std::io;
 use text::Page;
 use values::bits::lowest;
 
@@ -13,10 +12,10 @@ pub fn print(rt: &(impl Print + Errors), out: &mut Page) -> Result<(), Told> {
 }
 
 // One delivery, and the ring that it recorded.
-fn delivery(out: &mut Page, before: &Desk, after: &Desk) -> io::Result<()> {
+fn delivery(out: &mut Page, before: &Desk, after: &Desk) {
     let old = &before.board;
-    crate::tell(out, before, after, lowest(old.occupied))?;
-    rings::recorded_since(out, "      ring recorded: ", old, &after.board)
+    crate::tell(out, before, after, lowest(old.occupied));
+    rings::recorded_since(out, "      ring recorded: ", old, &after.board);
 }
 
 // So many deliveries, behind what stands on the page already. A page that is full is printed as far as it goes.
@@ -29,7 +28,7 @@ pub fn tell(
     let mut desk = *first;
     for _ in 0..made {
         let acted = desk::act(desk, typed::read(b"drain 1"));
-        let _full = delivery(out, &desk, &acted.desk);
+        delivery(out, &desk, &acted.desk);
         print(rt, out)?;
         desk = acted.desk;
     }

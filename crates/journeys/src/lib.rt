@@ -74,7 +74,11 @@ fn came_to_rest(out: &mut Page, m: &Message, old: &Board, new: &Board) -> Result
 }
 
 // What arrived under a number, what was sent, and that a list came to its end.
-pub fn tell(out: &mut Page, before: &Desk, after: &Desk, n: usize) -> Result<()> {
+pub fn tell(out: &mut Page, before: &Desk, after: &Desk, n: usize) {
+    let _full = put(out, before, after, n);
+}
+
+fn put(out: &mut Page, before: &Desk, after: &Desk, n: usize) -> Result<()> {
     let old = &before.board;
     let new = &after.board;
     let Some(m) = under(old, n) else {

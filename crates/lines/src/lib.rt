@@ -39,7 +39,7 @@ impl<R: Read> Lines<R> {
     }
 
     // The next line, without its line feed: how many bytes it has, of which the first are in the room. None where the input is over; a last
-    // line may have no line feed.
+    // line may have no line feed. A proved loop has to end, so its turns are counted, up to a number that no input reaches.
     pub fn next_line(&mut self, room: &mut [u8; 1000]) -> Result<Option<usize>> {
         for count in 0..usize::MAX {
             match self.next_byte()? {

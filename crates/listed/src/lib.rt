@@ -6,7 +6,8 @@ ghost use Rattle.std.specs.Prelude.{◌≡◌, length};
 use program::{Errors, Told, failed, file_of, write};
 use std::fs::Files;
 
-// How a sheet is run: all its commands in one call, or each by a call of its own.
+// How a sheet is run: all its commands in one call, or each by a call of its own. An enum, since a program says which and hands no
+// function in.
 #[derive(Clone, Copy, PartialEq, Eq)]
 pub enum Way {
     AtOnce,
@@ -58,8 +59,9 @@ fn every_sheet<R: Files + Print + Errors>(rt: &R, names: &[u8], way: Way) -> Res
 // Every sheet that `names` lists, in its order, until one could not be written.
 pub fn show<R: Files + Print + Errors>(rt: &R, way: Way) {
     let mut names = io::large_buffer();
-    let _ = match bytes_of(rt, b"names", &mut names) {
-        Ok(count) => every_sheet(rt, text::start(&names, count), way),
-        Err(told) => Err(told),
-    };
+    let _ = bytes_of(rt, b"names", &mut names).and_then(|count| every_sheet(
+        rt,
+        text::start(&names, count),
+        way,
+    ));
 }

@@ -37,7 +37,8 @@ fn add_entry(l: &mut Entries, q: u8, lead: u8)
     }
 }
 
-// The processes of a set are added, by rising number. None of them is listed yet.
+// The processes of a set are added, by rising number. None of them is listed yet. The set empties here, without
+// `words::Members`, which goes over a set too and stands in a crate above this one.
 fn add_set(l: &mut Entries, fresh: u64, lead: u8)
     requires { (length l.old.who ≡ 16) × Fresh l.old fresh }
     ensures { l.new ≡ Lists.add_all l.old lead (Tables.collect (Bits.taken fresh) (λ q. q) 16) }
@@ -50,7 +51,8 @@ fn add_set(l: &mut Entries, fresh: u64, lead: u8)
     }
 }
 
-// Those who stand ahead of it in conflict are added. Those listed already are marked.
+// Those who stand ahead of it in conflict are added. Those listed already are marked. Loops over those ahead stand in `is_behind`, in
+// `search` and in `waits` too: here entries are added, there one is looked for, or a set or a row gathered; they share `objects::bars`.
 fn add_ahead(l: &mut Entries, marks: u64, at: Standing, lead: u8)
     requires { (length l.old.who ≡ 16) × (l.old.count < 16 → Marks l.old marks) }
     ensures { l.new ≡ Lists.add_all l.old lead (Book.ahead at.book at.process at.mode at.place) }

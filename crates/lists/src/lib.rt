@@ -1,5 +1,6 @@
 // What a list meets: how it is started, what the home of a process does with it, and what the home of an object does with it. One list,
 // and one book or one noted wait.
+// That a list and a line are ranged is asked of each call and stands in no type: both come from a board, which may hold them out of range.
 #![tactic(auto)]
 
 ghost use Rattle.std.specs.Prelude.{◌≡◌, ◌<◌, ◌≤◌};

@@ -34,7 +34,7 @@ impl Standing {
         objects::bars(q, self.book.line_exclusive, self.process, self.mode, i)
     }
 
-    // It stands behind process s, in conflict.
+    // It stands behind process s, in conflict. What this and the loops of `gather`, `search` and `waits` share is the test `objects::bars`.
     fn is_behind(self, s: u8) -> bool
         ensures { result ≡ Tables.among s (Book.ahead self.book self.process self.mode self.place) }
     {

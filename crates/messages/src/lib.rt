@@ -1,6 +1,9 @@
 // A message in words: its kind, what it carries, and its way.
 #![tactic(auto)]
 
+ghost use Rattle.std.specs.Prelude.{◌≡◌, get_or};
+ghost use Rattle.laws.specs.Local.{destination};
+
 use desk::Desk;
 use desk::messages::arrives_at;
 use rules::{Board, Entries, Kind, Message};
@@ -24,18 +27,24 @@ pub fn is_list(m: &Message) -> bool {
     matches!(m.kind, Kind::ListToHome | Kind::ListToObject(_))
 }
 
-// The process at a place of a list's entries; p0 behind the last place.
-fn at(row: &[u8; 16], k: u8) -> u8 {
+// The process at a place of a list's entries; p0 behind the last place: a list in shape has none there, and no word is said of one.
+fn at(row: &[u8; 16], k: u8) -> u8
+    ensures { result ≡ get_or row.now k 0 }
+{
     row.get(wide(k)).copied().unwrap_or(0)
 }
 
 // The process that a list asks next.
-pub fn asked(l: &Entries) -> u8 {
+pub fn asked(l: &Entries) -> u8
+    ensures { result ≡ get_or l.now.who l.now.next 0 }
+{
     at(&l.who, l.next)
 }
 
 // The node that sent the message under a number, and the node where it arrives.
-pub fn way(desk: &Desk, n: usize) -> (u8, u8) {
+pub fn way(desk: &Desk, n: usize) -> (u8, u8)
+    ensures { (result.0 ≡ get_or desk.now.senders n 0) × (result.1 ≡ destination desk.now.board n) }
+{
     let from = desk.senders.get(n).copied().unwrap_or(0);
     (from, arrives_at(desk.board, n))
 }
@@ -93,7 +102,11 @@ fn entries(out: &mut Page, m: &Message) -> Result<()> {
 }
 
 // The message under a number, behind a word or two.
-pub fn tell(out: &mut Page, before: &str, desk: &Desk, n: usize) -> Result<()> {
+pub fn tell(out: &mut Page, before: &str, desk: &Desk, n: usize) {
+    let _full = put(out, before, desk, n);
+}
+
+fn put(out: &mut Page, before: &str, desk: &Desk, n: usize) -> Result<()> {
     let Some(m) = under(&desk.board, n) else {
         return Ok(());
     };
@@ -107,33 +120,31 @@ pub fn tell(out: &mut Page, before: &str, desk: &Desk, n: usize) -> Result<()> {
 }
 
 // Each message of a set, one to a line.
-pub fn tell_each(out: &mut Page, before: &str, desk: &Desk, set: u64) -> Result<()> {
+pub fn tell_each(out: &mut Page, before: &str, desk: &Desk, set: u64) {
     for n in Members::of(set) {
-        tell(out, before, desk, wide(n))?;
+        tell(out, before, desk, wide(n));
     }
-    Ok(())
 }
 
 // ---- the messages in flight
-pub fn in_flight(out: &mut Page, desk: &Desk) -> Result<()> {
+pub fn in_flight(out: &mut Page, desk: &Desk) {
     let set = desk.board.occupied;
+    tell_each(out, "  message ", desk, set);
     if set == 0 {
-        return writeln!(out, "  no message in flight");
+        let _full = writeln!(out, "  no message in flight");
     }
-    tell_each(out, "  message ", desk, set)
 }
 
 // Those that are on their way to a node.
-pub fn in_flight_to(out: &mut Page, desk: &Desk, node: u8) -> Result<()> {
+pub fn in_flight_to(out: &mut Page, desk: &Desk, node: u8) {
     let b = &desk.board;
     let begun = out.len();
     for n in Members::of(b.occupied) {
         if arrives_at(*b, wide(n)) == node {
-            tell(out, "  message ", desk, wide(n))?;
+            tell(out, "  message ", desk, wide(n));
         }
     }
     if out.len() == begun {
-        writeln!(out, "  no message on its way to node {node}")?;
+        let _full = writeln!(out, "  no message on its way to node {node}");
     }
-    Ok(())
 }

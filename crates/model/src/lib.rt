@@ -1,3 +1,3 @@
 #![tactic(auto)]
 
-// The board of functions: definitions and proofs only, no function of the language.
+// The board of functions: definitions and proofs only, no code.

@@ -61,7 +61,8 @@ pub fn bars(q: u8, exclusive: u64, p: u8, m: Mode, i: u8) -> bool
     q != p && (is_exclusive(m) || has(exclusive, i))
 }
 
-// The process becomes a holder, which replaces any hold that it has there.
+// The process becomes a holder, which replaces any hold that it has there. `processes::granted` and `dropping` do with a process's book as
+// this and `strike` do with an object's: the two books have two fields of one name, and no type, in common.
 pub fn hold(o: Object, p: u8, m: Mode) -> Object
     requires { p < 16 }
     ensures { result ≡ Book.held o p m }
@@ -120,8 +121,8 @@ pub fn front_clear(o: Object) -> bool
     is_clear(o, o.line[0], mode_at(o, 0))
 }
 
-// The places of a line after its front has left: each has what stood one place on. Written whole, and not turned in place, since a row that
-// is read just after one of its bytes was written makes the processor wait.
+// The places of a line after its front has left: each has what stood one place on. Written whole: turned in place, by `rotate_left`, it
+// took 22 instructions in place of 10.
 fn shifted(line: [u8; 16]) -> [u8; 16]
     ensures { result ≡ drop 1 line ++ 0 ∷ [] }
 {

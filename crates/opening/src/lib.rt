@@ -19,7 +19,8 @@ fn homes_of(count: u8, homes: [u8; 16]) -> [u8; 16]
     kept
 }
 
-// What an opening is given: its counts, and the homes of the processes and of the objects. Homes past the counts are ignored.
+// What an opening is given: its counts, and the homes of the processes and of the objects. Homes past the counts are ignored; they are
+// given as rows of 16, as a sheet's are, and as the definition `opening` takes them.
 #[derive(Clone, Copy, PartialEq, Eq, Default)]
 pub struct Opening {
     pub nodes: u8,

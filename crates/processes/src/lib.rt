@@ -35,7 +35,8 @@ pub fn asking(p: Process, o: u8, m: Mode) -> Process
     }
 }
 
-// The home drops the hold and notes that the process has released.
+// The home drops the hold and notes that the process has released. `objects::strike` and `hold` do with an object's book as this and
+// `granted` do with a process's: the two books have two fields of one name, and no type, in common.
 pub fn dropping(p: Process, o: u8) -> Process
     requires { o < 16 }
     ensures { result ≡ Home.dropping p o }

@@ -96,10 +96,8 @@ fn standard_input<'a, R: Files + Input>(rt: &R) -> Source<'a, R::Reader, R::File
 
 // The file that has this name. A name that is no text (UTF-8) names no file here: it is told that the name is not one.
 pub fn file_of<R: Files>(rt: &R, name: &[u8]) -> std::io::Result<R::File> {
-    match str::from_utf8(name) {
-        Ok(path) => fs::open(rt, path),
-        Err(_) => Err(Error::from(ErrorKind::InvalidFilename)),
-    }
+    let path = str::from_utf8(name).map_err(|_| Error::from(ErrorKind::InvalidFilename))?;
+    fs::open(rt, path)
 }
 
 fn opened<'a, R: Files + Input + Errors>(
@@ -166,10 +164,8 @@ pub fn start<'a, R: Env + Files + Input + Print + Errors>(
 
 // All of it on standard output. Where that fails it is told.
 pub fn write(rt: &(impl Print + Errors), bytes: &[u8]) -> Result<(), Told> {
-    match rt.write_all(bytes) {
-        Ok(()) => Ok(()),
-        Err(why) => Err(failed(rt, b"standard output", why)),
-    }
+    rt.write_all(bytes)
+        .map_err(|why| failed(rt, b"standard output", why))
 }
 
 // One read, of as many bytes as there are, up to the piece's length. One that a signal broke off is tried again; a proved loop has to end,

@@ -1,7 +1,6 @@
 // What is told on standard error: what failed, a colon, and why, in the system's words.
-use arrayvec::ArrayString;
-use std::fmt::Write;
-use std::io::{Error, IsTerminal};
+use arrayvec::ArrayVec;
+use std::io::{Error, IsTerminal, Write};
 
 // What failed has been told on standard error, and nothing is left to tell.
 #[derive(Clone, Copy, Debug, PartialEq, Eq)]
@@ -33,11 +32,13 @@ fn words(text: &str) -> &str {
 
 // Writes a line: what failed, as the caller names it, and why.
 pub fn failed(rt: &impl Errors, what: &[u8], why: Error) -> Told {
-    let mut text = ArrayString::<320>::new();
-    let _ = write!(text, "{why}");
+    let mut line: ArrayVec<u8, 320> = ArrayVec::new();
+    let _ = write!(line, "{why}");
     rt.tell(what);
     rt.tell(b": ");
-    rt.tell(words(text.as_str()).as_bytes());
+    if let Ok(text) = str::from_utf8(line.as_slice()) {
+        rt.tell(words(text).as_bytes());
+    }
     rt.tell(b"\n");
     Told
 }

@@ -8,10 +8,11 @@ fn sixteen(s: &[u8], i: usize) -> usize
     requires { i + 1 < length s.now }
     ensures { result ≡ field s.now (8 * i) 16 }
 {
-    256 * s[i] as usize + s[i + 1] as usize
+    256 * usize::from(s[i]) + usize::from(s[i + 1])
 }
 
 // "Kinds 0 to 2 go on with process 4, object 4, six spare; kind 3 with message number 6, eight spare."
+// Kinds are numbers in a sheet, and are matched as such (docs/DECISIONS.md, forms).
 fn spare(command: usize) -> u8
     ensures { result ≡ spare_in command }
 {
@@ -22,7 +23,7 @@ fn spare(command: usize) -> u8
 }
 
 // A spare bit is set in one of n commands, which the sheet has whole from byte `first` on. All of them are gathered before the answer, in one
-// byte: then the compiler can take many commands at a time.
+// byte, so no command waits for the test of the one before it.
 pub fn any_spare(s: &[u8], first: usize, n: usize) -> bool
     requires { 2 * n ≤ length s.now - first }
     ensures { result ≡ any_spare (drop first s.now) n }

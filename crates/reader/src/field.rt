@@ -3,7 +3,7 @@ ghost use Rattle.std.specs.Prelude.{◌≡◌, ◌+◌, ◌*◌, ◌<◌, ◌≤
 ghost use Rattle.rules.specs.Sheet as Rules;
 ghost use Rattle.reader.specs.Place as Place;
 
-// Byte i of a sheet.
+// Byte i of a sheet. One call of the library's own, as `desk` and `messages` have it: a function in a lower crate would say no more.
 fn byte(s: &[u8], i: usize) -> u8
     ensures { result ≡ get_or s.now i 0 }
 {
@@ -16,9 +16,9 @@ pub fn field(s: &[u8], at: usize, n: usize) -> usize
     ensures { (result ≡ Rules.field s.now at n) × (result < 2 ^ n) }
 {
     let first = at / 8;
-    let high = byte(s, first) as usize;
-    let middle = byte(s, first + 1) as usize;
-    let low = byte(s, first + 2) as usize;
+    let high = usize::from(byte(s, first));
+    let middle = usize::from(byte(s, first + 1));
+    let low = usize::from(byte(s, first + 2));
     let three = 65536 * high + 256 * middle + low;
     (three >> (24 - at % 8 - n)) % (1 << n)
 }

@@ -1,6 +1,6 @@
 // A sheet is read through one reading place, which moves on by the bits that are read: the sheet, and the bit that is read next.
 // What stands at a position of a sheet is found in the modules below; the reading place asks them, and moves on.
-// Above it stand functions with plain parameters: the whole pass over a sheet, and what follows a bit.
+// Over it stand functions with plain parameters: the whole pass over a sheet, and what follows a bit.
 #![tactic(auto)]
 
 ghost use Rattle.std.specs.Prelude.{◌≡◌, ◌+◌, ◌*◌, ◌/◌, length, drop};

@@ -46,7 +46,11 @@ fn fault(out: &mut Page, t: Typed) -> Result<()> {
 }
 
 // An empty line and a comment are passed over in silence.
-pub fn tell(out: &mut Page, t: Typed) -> Result<()> {
+pub fn tell(out: &mut Page, t: Typed) {
+    let _full = put(out, t);
+}
+
+fn put(out: &mut Page, t: Typed) -> Result<()> {
     match t.verb {
         Verb::Blank => Ok(()),
         Verb::Unknown => writeln!(
@@ -62,10 +66,10 @@ pub fn tell(out: &mut Page, t: Typed) -> Result<()> {
     }
 }
 
-pub fn too_long(out: &mut Page) -> Result<()> {
-    writeln!(
+pub fn too_long(out: &mut Page) {
+    let _full = writeln!(
         out,
         "not understood: a line of more than 1000 bytes
   expected a command; help explains them"
-    )
+    );
 }

@@ -1,9 +1,9 @@
 // The help, on one screen, and how to begin.
-use std::io::{Result, Write};
+use std::io::Write;
 use text::Page;
 
-pub fn tell(out: &mut Page) -> Result<()> {
-    writeln!(
+pub fn tell(out: &mut Page) {
+    let _full = writeln!(
         out,
         "Beside each command stands its short form.
 open N P O         o   a board of N nodes (1 to 8), P processes (1 to 16) and
@@ -38,5 +38,5 @@ so is request p0 o1 x. What stands after # on a line is a comment.
 Load is messages in flight, plus processes standing in lines, plus requests in
 flight (so a request counts twice). It never passes 64: a request is refused
 where it is above 62, and a release where it is above 63 (answer 10)."
-    )
+    );
 }

@@ -1,31 +1,36 @@
-// The lines that are printed for a sheet that was run. The longest text, of 4,096 answers, 16 objects and 16 rings, fits the page.
+// The lines that are printed for a sheet that was run. The longest text, of 4,096 answers, 16 objects and 16 rings, fits the page. Each
+// function says what room its text needs: the numbers differ, so no type holds them.
 ghost use Rattle.std.specs.Prelude.{◌≡◌, [], ◌∷◌, ◌+◌, ◌<◌, ◌≤◌};
 ghost use Rattle.arrayvec.specs.ArrayVec.{array_vec_len, Extends};
 ghost use Rattle.rules.specs.Tables.{count_of};
 ghost use Rattle.rules.specs.Bits.{taken};
-ghost use Rattle.rules.specs.Book.{mode_if, holder_at};
+ghost use Rattle.rules.specs.Book.{holder_at};
 ghost use Rattle.text.specs.Text.{after_spaces, decimal};
 ghost use Rattle.printed.specs.Lines as Printed;
 
-use rules::{Board, Object, Ran, Ring};
+use rules::{Board, Mode, Object, Ran, Ring};
 use text::{Page, at_most, number, put, word};
 use values::bits::{has, wide};
+use values::mode::mode_if;
 
-fn letter(exclusive: bool) -> u8
-    ensures { result ≡ Printed.letter (mode_if exclusive) }
+fn letter(mode: Mode) -> u8
+    ensures { result ≡ Printed.letter mode }
 {
-    if exclusive { b'X' } else { b'S' }
+    match mode {
+        Mode::Exclusive => b'X',
+        Mode::Shared => b'S',
+    }
 }
 
 // A space, a process and the letter of its mode.
-fn entry(out: &mut Page, p: u8, exclusive: bool)
+fn entry(out: &mut Page, p: u8, mode: Mode)
     requires { array_vec_len out.old + 6 ≤ 65536 }
-    ensures text { Extends out.old (after_spaces (Printed.entry p (mode_if exclusive) ∷ [])) out.new }
+    ensures text { Extends out.old (after_spaces (Printed.entry p mode ∷ [])) out.new }
     ensures room { array_vec_len out.new ≤ array_vec_len out.old + 6 }
 {
     put(out, b' ');
     number(out, u64::from(p));
-    put(out, letter(exclusive));
+    put(out, letter(mode));
 }
 
 // A process among the holders, if it is there.
@@ -35,13 +40,13 @@ fn holder(out: &mut Page, o: &Object, p: u8)
     ensures room { array_vec_len out.new ≤ array_vec_len out.old + 6 }
 {
     if has(o.exclusive, p) {
-        entry(out, p, true);
+        entry(out, p, Mode::Exclusive);
     } else if has(o.shared, p) {
-        entry(out, p, false);
+        entry(out, p, Mode::Shared);
     }
 }
 
-// The holders by rising number.
+// The holders by rising number: processes stand in two sets here, and in no row.
 fn holders(out: &mut Page, o: &Object)
     requires { array_vec_len out.old + 96 ≤ 65536 }
     ensures text { Extends out.old (after_spaces (Printed.holder_entries o.now)) out.new }
@@ -60,7 +65,7 @@ fn line(out: &mut Page, o: &Object)
 {
     let n = at_most(16, wide(o.line_count));
     for (k, p) in o.line[..n].iter().enumerate() {
-        entry(out, *p, has(o.line_exclusive, k as u8));
+        entry(out, *p, mode_if(has(o.line_exclusive, k as u8)));
     }
 }
 
@@ -166,6 +171,7 @@ fn answer_line(out: &mut Page, i: usize, answer: u8)
     put(out, b'\n');
 }
 
+// The room of the answers is lent whole; how many there are is said by what was run.
 fn answer_lines(out: &mut Page, commands: usize, answers: &[u8; 4096])
     requires { array_vec_len out.old + 40960 ≤ 65536 }
     ensures text { Extends out.old (Printed.command_lines commands answers.now) out.new }
@@ -188,18 +194,18 @@ fn refused_line(out: &mut Page, code: u8)
     put(out, b'\n');
 }
 
-// For a refused sheet its number alone; else every answer, object and ring, and the counts. Nothing else is on the page.
+// For a refused sheet its number alone; else every answer, object and ring, and the counts. Nothing else is on the page. The room of the
+// answers is lent whole; how many there are is said by what was run.
 pub fn report(out: &mut Page, ran: &Ran, answers: &[u8; 4096])
     ensures { (out.new.items ≡ Printed.printed ran.now answers.now) × (array_vec_len out.new ≤ 65536) }
 {
     out.clear();
-    let code = u8::from(ran.answer);
-    if code == 0 {
+    if ran.answer.is_done() {
         answer_lines(out, ran.commands, answers);
         object_lines(out, &ran.board);
         ring_lines(out, &ran.board);
         last_line(out, &ran.board);
     } else {
-        refused_line(out, code);
+        refused_line(out, u8::from(ran.answer));
     }
 }

@@ -26,19 +26,27 @@ fn since(out: &mut Page, old: &[Ring; 16], before: &str, now: &[Ring; 16]) -> Re
 }
 
 // The rings that were recorded between two boards, each on a line behind a word or two.
-pub fn recorded_since(out: &mut Page, before: &str, old: &Board, new: &Board) -> Result<()> {
-    since(out, &old.rings, before, &new.rings)
+pub fn recorded_since(out: &mut Page, before: &str, old: &Board, new: &Board) {
+    let _full = since(out, &old.rings, before, &new.rings);
 }
 
 // How many places for a ring are filled, and the ring in each.
-pub fn recorded(out: &mut Page, b: &Board) -> Result<()> {
+pub fn recorded(out: &mut Page, b: &Board) {
+    let _full = put_recorded(out, b);
+}
+
+fn put_recorded(out: &mut Page, b: &Board) -> Result<()> {
     let none = [Ring::default(); 16];
     writeln!(out, "  rings recorded: {}", sums::tally(*b))?;
     since(out, &none, "    ring ", &b.rings)
 }
 
 // The rings that exist now, recorded or not. Every process that stands in a ring is in one that is told.
-pub fn existing(out: &mut Page, b: &Board) -> Result<()> {
+pub fn existing(out: &mut Page, b: &Board) {
+    let _full = put_existing(out, b);
+}
+
+fn put_existing(out: &mut Page, b: &Board) -> Result<()> {
     writeln!(out, "only the whole board shows")?;
     let headed = out.len();
     exists::recorded(out, b)?;

@@ -91,7 +91,8 @@ pub struct Arrived {
     pub sent: Message,
 }
 
-// What an object's home makes of a list: the list that goes on, and the ring that was found; no ring where none was.
+// What an object's home makes of a list: the list that goes on, and the ring that was found; no ring (the empty
+// ring, as `Ring` has it) where none was.
 #[derive(Clone, Copy)]
 pub struct Looked {
     pub sent: Message,
@@ -157,7 +158,7 @@ pub struct Stepped {
     pub board: Board,
 }
 
-// What a drain hands back: how many deliveries were made.
+// What a drain hands back: how many deliveries were made, and the board, with a refusal too. So it is no Result, as `Stepped` is none.
 #[derive(Clone, Copy)]
 pub struct Drained {
     pub answer: Answer,
@@ -165,7 +166,8 @@ pub struct Drained {
     pub board: Board,
 }
 
-// What running commands into lent room hands back: how many commands were run.
+// What running commands into lent room hands back: how many commands were run, and the board, with a refusal too. So it is no Result, as
+// `Stepped` is none.
 #[derive(Clone, Copy)]
 pub struct Ran {
     pub answer: Answer,

@@ -8,7 +8,8 @@ ghost use Rattle.search.specs.Waiting.{waits_in, waits_for};
 use rules::{Board, Mode, Object};
 use values::bits::wide;
 
-// Those that p waits for in the mode at place k: those who hold in conflict, and those ahead in conflict.
+// Those that p waits for in the mode at place k: those who hold in conflict, and those ahead in conflict. Loops over those ahead stand in
+// `waits` and `lists` too: here a set is gathered, there a row by place and a list's entries; the test `objects::bars` is what they share.
 fn at_place(o: Object, p: u8, m: Mode, k: u8) -> u64
     requires { (p < 16) × (k < 16) }
     ensures { SetOf (λ q. among q (waited_for o p m k)) result }

@@ -9,14 +9,12 @@ ghost use Rattle.search.specs.Ways as Ways;
 use rules::Ring;
 use values::bits::wide;
 
-// No ring: a count of zero.
+// No ring: a count of zero, as the rules' `no_ring` has it, and no Option. It is the default, by the name that the rules have for it.
+#[tactic(auto, using(values::proofs::Defaults::ring_default))]
 pub fn no_ring() -> Ring
     ensures { result ≡ no_ring }
 {
-    Ring {
-        processes: [0; 16],
-        count: 0,
-    }
+    Ring::default()
 }
 
 // Those who wait for one of a set.
@@ -50,6 +48,7 @@ pub fn round(comers: [u64; 17], p: u8) -> Option<usize>
     requires { p < 16 }
     ensures { MatchOption result (suc (first 16 (λ k. taken (get_or comers (suc k) 0) p)) ≡ 17) (λ n. (n ≡ suc (first 16 (λ k. taken (get_or comers (suc k) 0) p))) × (n ≤ 16)) }
 {
+    // By number: the definition `first` counts so, and the number is handed back.
     for k in 1..17 {
         if values::bits::has(comers[k], p) {
             return Some(k);
@@ -65,6 +64,7 @@ pub fn way(sets: [u64; 16], comers: [u64; 17], p: u8, n: usize) -> Ring
 {
     let mut processes: [u8; 16] = [0; 16];
     let mut x = p;
+    // By number: the way is written from its first on while the waits that are left fall, and the law of it (`Walked`) is said of both.
     for i in 0..n {
         processes[i] = x;
         let waited = sets[wide(x)];

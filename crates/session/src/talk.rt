@@ -3,21 +3,19 @@ use crate::{echo, hears, undone};
 use desk::{Acted, Desk, Follows};
 use journeys::follow::{self, print};
 use program::{Errors, Told, write};
-use std::io;
 use text::Page;
 use typed::{Typed, Verb};
 use undo::Kept;
 
 // What a line did to the desk, or what is wrong with it.
-fn understood(out: &mut Page, desk: &Desk, t: &Typed, acted: &Acted, kept: Kept) -> io::Result<()> {
+fn understood(out: &mut Page, desk: &Desk, t: &Typed, acted: &Acted, kept: Kept) {
     if !asked::line::is_whole(*t) {
         return replies::fault::tell(out, *t);
     }
-    told::tell(out, desk, t, acted)?;
+    told::tell(out, desk, t, acted);
     if acted.follows == Follows::Undo {
-        undone::tell(out, kept, acted.desk.command)?;
+        let _full = undone::tell(out, kept, acted.desk.command);
     }
-    Ok(())
 }
 
 // What the words go to, whether the lines are typed at a terminal, and the page that is written next.
@@ -75,13 +73,13 @@ impl<'a, R: Print + Errors> Talk<'a, R> {
             let _full = echo::tell(out, room, count, t.verb == Verb::Blank);
         }
         if room.len() < count {
-            let _full = replies::fault::too_long(out);
+            replies::fault::too_long(out);
             return print(self.rt, out);
         }
         if t.verb == Verb::Follow {
             follow::tell(self.rt, out, desk, acted.made)?;
         }
-        let _full = understood(out, desk, &t, acted, kept);
+        understood(out, desk, &t, acted, kept);
         print(self.rt, out)
     }
 }

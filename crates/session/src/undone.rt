@@ -8,7 +8,7 @@ use undo::Kept;
 pub fn tell(out: &mut Page, k: Kept, command: Typed) -> Result<()> {
     if k.count != 0 {
         write!(out, "undone: ")?;
-        replies::command(out, command)?;
+        replies::command(out, command);
         writeln!(out)
     } else if k.dropped {
         writeln!(out, "nothing is left to undo: the last 64 changes are kept")

@@ -38,7 +38,8 @@ pub fn counts_fit(nodes: u8, pc: u8, oc: u8, process_home: [u8; 16], object_home
         && row_fits(object_home, oc, nodes)
 }
 
-// The count for record k of c records; zero past them.
+// The count for record k of c records; zero past them. Like `limit_at` and `lead_limit` but for a constant: each is a clause of the rules
+// (`up_to`, `row_fits`, `lead_fits`), of one line.
 fn up_to(k: usize, c: usize, n: u8) -> u8
     ensures { result ≡ up_to k c n }
 {
@@ -62,7 +63,7 @@ fn process_fits(p: Process, oc: u8) -> bool
     holds_fit(p.shared, p.exclusive, oc) && wait_fits(p.wait, oc) && (!p.released || 0 < oc)
 }
 
-// By `for`: with the library's `all` a board's shape took 113 million instructions in place of 102, in 20,000 calls.
+// By `for`, as lib.rt says: the books of the processes.
 pub fn processes_fit(books: [Process; 16], pc: u8, oc: u8) -> bool
     requires { oc ≤ 16 }
     ensures { result ≡ all 16 (λ p. process_fits (get_or books p no_process) (up_to p pc oc)) }
@@ -87,7 +88,7 @@ fn object_fits(o: Object, pc: u8) -> bool
         && set_fits(o.line_exclusive, o.line_count)
 }
 
-// By `for`: with the library's `all` a board's shape took 113 million instructions in place of 102, in 20,000 calls.
+// By `for`, as lib.rt says: the books of the objects.
 pub fn objects_fit(books: [Object; 16], pc: u8, oc: u8) -> bool
     requires { pc ≤ 16 }
     ensures { result ≡ all 16 (λ o. object_fits (get_or books o no_object) (up_to o oc pc)) }

@@ -1,5 +1,9 @@
 // Is a board in shape? Each test is proved equal to the clause of the rules that it is named after. A test is handed the records that it
 // reads and not the board, which would be copied for each.
+// That a count is at most 16 is asked of each test and stands in no type: `counts_fit` tests it first, and a board's counts are plain
+// numbers.
+// The books and the rings are gone through by `for`: with the library's `all` a board's shape took 113 million instructions in place of
+// 102, in 20,000 calls.
 #![tactic(auto)]
 
 ghost use Rattle.std.specs.Prelude.{◌≡◌};

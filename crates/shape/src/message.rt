@@ -13,6 +13,7 @@ use rules::{Entries, Flight, Kind};
 use values::bits::wide;
 
 // The limit of the lead at place k of n: a later entry is led by an earlier one, and the rest are zero, which alone is below 1.
+// Like `up_to` and `limit_at`: each is a clause of the rules, of one line.
 fn lead_limit(k: u8, n: u8) -> u8
     ensures { result ≡ pick (ltb 0 k && ltb k n) k 1 }
 {

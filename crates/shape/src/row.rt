@@ -14,13 +14,15 @@ pub fn over(x: u8, limit: u8) -> u8
 }
 
 // The limit at place k of a row of n numbers below c: past them stands zero, which alone is below 1.
+// Like `up_to` and `lead_limit` but for a constant: each is a clause of the rules, of one line.
 fn limit_at(k: usize, n: usize, c: u8) -> u8
     ensures { result ≡ pick (ltb k n) c 1 }
 {
     if k < n { c } else { 1 }
 }
 
-// "unused places hold zero": the first n numbers are below c, and the rest zero.
+// "unused places hold zero": the first n numbers are below c, and the rest zero. A row with its count, as the rules have
+// it, and no slice: what stands past the count is tested too.
 pub fn row_fits(row: [u8; 16], n: u8, c: u8) -> bool
     ensures { result ≡ row_fits row n c }
 {

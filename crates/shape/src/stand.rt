@@ -19,7 +19,7 @@ fn note(standing: u64, p: u8) -> Option<u64>
     }
 }
 
-// The first n of a row stand too.
+// The first n of a row stand too. Row and count are apart, as in the definitions `different` and `noted_row`, and as the callers have them.
 fn note_row(mut standing: u64, row: [u8; 16], n: u8) -> Option<u64>
     requires { RowFits row n }
     ensures { result ≡ noted_row standing row n }
@@ -30,7 +30,7 @@ fn note_row(mut standing: u64, row: [u8; 16], n: u8) -> Option<u64>
     Some(standing)
 }
 
-// The first n of a row are different.
+// The first n of a row are different. Row and count, as `different` of the rules takes them.
 pub fn different(row: [u8; 16], n: u8) -> bool
     requires { RowFits row n }
     ensures { result ≡ Rules.different row n }

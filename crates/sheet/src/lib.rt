@@ -49,7 +49,7 @@ pub fn commands(s: &[u8]) -> &[u8]
     }
 }
 
-// A refused sheet runs nothing: the board of zeros, and no command.
+// A refused sheet runs nothing: the board of zeros, and no command. bench has one too: each is its definition, with its own board.
 fn refused(answer: Answer) -> Ran
     ensures { result ≡ (refused_run answer zero_board []).ran }
 {

@@ -4,6 +4,8 @@ ghost use Rattle.rules.specs.Sheet.{command_at};
 
 use rules::Command;
 
+// The numbers of a command out of its two bytes, as the engine takes them too: apart from it, since what is run here is held against it.
+// Kinds are numbers in a sheet, and are matched as such (docs/DECISIONS.md, forms).
 fn command_of(hi: u8, lo: u8) -> Command
     ensures { result ≡ command_at (hi ∷ lo ∷ []) 0 }
 {

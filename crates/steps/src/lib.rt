@@ -12,6 +12,7 @@ use rules::{Board, Command, Ran, Stepped};
 mod command;
 
 // The first n commands of a part, one by one, each by the step that is handed in; the number of each answer goes into the room.
+// The room is lent whole: how many answers it has is said by what was run.
 fn steps<F: Fn(Board, Command) -> Stepped>(
     opened: Board,
     part: &[u8],
@@ -23,6 +24,7 @@ fn steps<F: Fn(Board, Command) -> Stepped>(
     ensures { (result ≡ board_by_steps opened part.now n) × (room.new ≡ room_by_steps opened part.now room.old n) }
 {
     let mut b = opened;
+    // By number: `command_at`, by which the definition `board_by_steps` goes, takes the number of a command.
     for i in 0..n {
         let stepped = step(b, command_at(part, i));
         room[i] = u8::from(stepped.answer);

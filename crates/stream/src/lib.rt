@@ -15,7 +15,8 @@ use term::Chart;
 
 pub mod screen;
 
-// A read failed: the chart of what had come, and why it failed. The end of the stream was not read.
+// A read failed: the chart of what had come, and why it failed. The end of the stream was not read. A type of its own, as input has one:
+// what had come differs, and the definition `chart_read` takes it.
 #[derive(Clone, Copy)]
 pub struct Broken {
     pub chart: Chart,
@@ -30,7 +31,8 @@ fn no_sheet() -> [u8; 8206]
 }
 
 // Until the stream ends or a read fails, with a count on the terminal. A proved loop has to end, so it counts its turns, up to a number that
-// no stream reaches; one that did would count as failed, since its end was not read.
+// no stream reaches; one that did would count as failed, since its end was not read. A loop of its own, as input has one: what a piece does
+// to what was lent stands in each contract (`Pieces`, `chart_of`).
 fn taken_in<R: Errors + Clock + CpuClock, F: Write, I: std::io::Read>(
     rt: &R,
     from: &mut I,

@@ -1,13 +1,10 @@
 -- Laws of a stream taken in: pieces one after another are one piece, and bytes that lie inside one sheet can be taken at once.
 -- Assumes nothing.
-use Rattle.std.proofs.Common.{min, ◌≡◌, refl, sym, ap, ◌∙◌, true, false, List, [], ◌∷◌, ◌++◌, ℕ, suc, ◌+◌, ◌-◌, ◌≤◌, ◌<◌, arith, add-one, eqb, length, get_or, take, drop, take-append-drop, take_all, length-take, eq-eqb, ne_eqb, lt-ltb, le-ltb}
-use Rattle.std.proofs.lemmas.Slice.{put_mid-paste}
-use borrow.Rule.Slice.PartMut.{put_mid}
-use lib.Seq.{paste}
+use Rattle.std.proofs.Common.{min, ◌≡◌, refl, sym, ap, ◌∙◌, true, false, List, [], ◌∷◌, ◌++◌, ℕ, suc, ◌+◌, ◌-◌, ◌≤◌, ◌<◌, arith, add-one, eqb, length, get_or, take, drop, take-append-drop, eq-eqb, ne_eqb, lt-ltb, le-ltb}
 use native.Mathlib.Decide.{dec_lt, ℕ_discrete}
 use Rattle.rules.specs.Tables.{pick}
 use Rattle.text.specs.Text.{at_most, behind}
-use Rattle.text.proofs.Text.{at_most_below, at_most_top, behind_out, behind_one, written_parts}
+use Rattle.text.proofs.Text.{at_most_below, at_most_top, behind_out, behind_one}
 use Rattle.totals.specs.declared.Totals.{Totals}
 use Rattle.totals.specs.Stream.{whole, long, buffer, length_of, sized}
 use Rattle.term.specs.declared.Chart.{Chart}
@@ -148,36 +145,3 @@ ended_at c p e = ap (λ (x : Place). closed (end_at c.totals x)) (sym e)
 -- ---- a piece in two parts
 pub fed_parts : (f : Fed) (n : ℕ) (l : List ℕ) {front back : List ℕ} → front ≡ take n l → back ≡ drop n l → fed f l ≡ fed (fed f front) back
 fed_parts f n l e g = ap (fed f) (sym (take-append-drop n l)) ∙ fed_append f (take n l) (drop n l) ∙ (λ i. fed (fed f (sym e i)) (sym g i))
-
--- ---- bytes copied into what the buffer has free
--- some bytes, cut to what there is room for
-cut_to_room : (n room : ℕ) (bytes : List ℕ) → n ≡ min (length bytes) room → take n bytes ≡ take room bytes
-cut_to_room n room bytes e = elim (dec_lt (length bytes) room) [
-  | yes h ↦ take_all n bytes (omega (arith, e, h)) ∙ sym (take_all room bytes (omega (arith, h)))
-  | no f ↦ ap (λ (k : ℕ). take k bytes) (omega (arith, e, f))
-]
-
--- a place past the end of the buffer is as its end
-behind_end : (sheet : List ℕ) (held : ℕ) (bytes : List ℕ) (at : ℕ) → at ≡ min held buffer → behind buffer sheet at bytes ≡ behind buffer sheet held bytes
-behind_end sheet held bytes at e = elim (dec_lt held buffer) [
-  | yes h ↦ ap (λ (k : ℕ). behind buffer sheet k bytes) (omega (arith, e, h))
-  | no f ↦ sym (behind_out buffer sheet at bytes (omega (arith, e, f))) ∙ behind_out buffer sheet held bytes (omega (arith, f))
-]
-
-module _ (sheet bytes : List ℕ) (at n : ℕ) (size : length sheet ≡ buffer) (fits : at ≤ buffer) (m : n ≡ min (length bytes) (buffer - at)) where
-  abbrev kept : List ℕ
-  kept = take (buffer - at) bytes
-
-  kept_long : length kept ≡ n
-  kept_long = omega (arith, length-take (buffer - at) bytes, m)
-
-  pasted : paste sheet at kept n ≡ behind buffer sheet at bytes
-  unfolding behind
-  pasted = (λ i. take at sheet ++ take_all n kept (omega (arith, kept_long)) i ++ drop (at + sym kept_long i) sheet) ∙ sym (written_parts sheet at kept (omega (arith, kept_long, size, fits, m)))
-
-pub behind_kept : (sheet : List ℕ) (held : ℕ) (bytes : List ℕ) {at n k : ℕ} {copied : List ℕ} → length sheet ≡ buffer
-    → at ≡ min held buffer → n ≡ min (length bytes) (buffer - at) → k ≡ n → copied ≡ take n bytes → put_mid at k sheet copied ≡ behind buffer sheet held bytes
-behind_kept sheet held bytes {at} {n} {k} {copied} size a m same e =
-    let fits : at ≤ buffer = omega (arith, a) in
-    put_mid-paste at k sheet copied (kept sheet bytes at n size fits m) n (e ∙ cut_to_room n (buffer - at) bytes m) (sym same) (sym (kept_long sheet bytes at n size fits m))
-    ∙ pasted sheet bytes at n size fits m ∙ behind_end sheet held bytes at a

@@ -13,7 +13,8 @@ use totals::{Came, Totals};
 
 // Where a stream stands: before the length of a sheet, between the two bytes of a length, inside a sheet, or at its end. Of a sheet it is
 // said how many of its bytes came, counted up to 8,207, one more than the buffer holds, and how many are to come. It is a count that stops
-// (`byte` of specs/Feed.antt), as a total does, and so no Option beside it.
+// (`byte` of specs/Feed.antt), as a total does, and so no Option beside it. The buffer is lent
+// beside it (docs/DECISIONS.md, The lent buffer of one sheet).
 #[derive(Clone, Copy, PartialEq, Eq)]
 pub enum Place {
     Between,

@@ -7,8 +7,8 @@ use native.Mathlib.Numerals.{add-one}
 use native.Mathlib.Decide.{dec_lt}
 use Rattle.std.proofs.lemmas.List.{drop-drop}
 use lib.Dec.{ltb}
-use lib.ListN.{length, take, drop, get_or, set, length-append, length-take}
-use lib.Seq.{sets, sets-eq, length-sets, take-append_seam, take-suc}
+use lib.ListN.{length, take, drop, get_or, set, length-take}
+use lib.Seq.{sets, sets-eq, length-sets}
 use borrow.Author.Tests.{ltb-true, ltb-false, lt-ltb, le-ltb}
 use borrow.Rule.Slice.PartMut.{put_mid}
 use Rattle.std.specs.Prelude.{min}
@@ -16,7 +16,7 @@ use Rattle.std.proofs.Math.Nat.{min-eq_left, min-eq_right}
 use Rattle.std.specs.Fmt.{decimal as written_decimal}
 use Rattle.std.proofs.lemmas.Fmt.{decimal_from_appends, length-decimal-le, length-decimal-le_succ}
 use Rattle.rules.proofs.Tables.{by_test}
-use Rattle.text.specs.Text.{digits, decimal, read_on, after_spaces, flat, at_most, written, behind, Wrote}
+use Rattle.text.specs.Text.{digits, decimal, read_on, after_spaces, flat, at_most, written, behind}
 
 -- ---- a number in decimal
 digits_one : (d n : ℕ) → n < 10 → digits (suc d) n ≡ (48 + n) ∷ []
@@ -155,10 +155,6 @@ module _ (page : List ℕ) where
           pub added_six : (g : List ℕ) {w l : List ℕ} → w ≡ t ++ g → ((((a ++ b) ++ c) ++ d) ++ f) ++ g ≡ l → w ≡ page ++ l
           added_six g k e = added_as e (added_then ((((a ++ b) ++ c) ++ d) ++ f) g five k)
 
--- one letter more of a word
-pub take_next : (l : List ℕ) (i : ℕ) → i < length l → take (i + 1) l ≡ take i l ++ get_or l i 0 ∷ []
-take_next l i h = rw add-one (take-suc l i 0 h)
-
 -- ---- counts
 pub at_most_below : (top n : ℕ) → n < top → n ≡ at_most top n
 unfolding at_most
@@ -177,39 +173,6 @@ pub at_most_is : (top : ℕ) {k n w m : ℕ} → k ≡ n → n ≡ at_most top w
 at_most_is top d e f = d ∙ e ∙ ap (at_most top) f
 
 -- ---- bytes in a buffer
-sets_append : (xs ys l : List ℕ) (at : ℕ) → sets l at (xs ++ ys) ≡ sets (sets l at xs) (at + length xs) ys
-sets_append [] ys l at = ap (λ (k : ℕ). sets l k ys) (omega arith)
-sets_append (x ∷ xs) ys l at = sets_append xs ys (set l at x) (suc at) ∙ ap (λ (k : ℕ). sets (sets (set l at x) (suc at) xs) k ys) (omega arith)
-
-module _ {old : List ℕ} {at : ℕ} where
-  -- nothing is put
-  pub wrote_none : Wrote old at [] old at
-  unfolding written
-  wrote_none = record { text = refl; place = omega arith }
-
-  -- one byte is put
-  pub wrote_one : {x : ℕ} → Wrote old at (x ∷ []) (set old at x) (at + 1)
-  unfolding written
-  wrote_one = record { text = refl; place = refl }
-
-  -- one after the other is both
-  pub wrote_then : {xs ys new last : List ℕ} {to end : ℕ} → Wrote old at xs new to → Wrote new to ys last end → Wrote old at (xs ++ ys) last end
-  unfolding written
-  wrote_then {xs} {ys} {new} {last} {to} {end} a b = record {
-    text = b.text ∙ ap (λ (l : List ℕ). sets l to ys) a.text ∙ ap (λ (k : ℕ). sets (sets old at xs) k ys) a.place ∙ sym (sets_append xs ys old at);
-    place = omega (arith, a.place, b.place, length-append xs ys);
-  }
-
-  pub wrote_as : {xs ys new : List ℕ} {end : ℕ} → xs ≡ ys → Wrote old at xs new end → Wrote old at ys new end
-  wrote_as {xs} {ys} {new} {end} e w = rw (sym e) w
-
-  pub wrote_at : {xs new : List ℕ} {end to : ℕ} → end ≡ to → Wrote old at xs new end → Wrote old at xs new to
-  wrote_at {xs} {new} {end} {to} e w = rw (sym e) w
-
--- bytes put at a place leave one buffer and one place after them
-pub wrote_only : {old bytes new other : List ℕ} {at end to : ℕ} → Wrote old at bytes new end → Wrote old at bytes other to → ◌≡◌ {A = List ℕ × ℕ} (new, end) (other, to)
-wrote_only a b i = ((a.text ∙ sym b.text) i, (a.place ∙ sym b.place) i)
-
 -- the buffer afterwards: what was before the place, the bytes, and what lies behind them
 pub written_parts : (old : List ℕ) (at : ℕ) (bytes : List ℕ) → at + length bytes ≤ length old → written old at bytes ≡ take at old ++ bytes ++ drop (at + length bytes) old
 unfolding written
@@ -245,14 +208,6 @@ behind_one room buffer n x bytes = by_test (ltb n room)
     (λ t. let h : room ≤ n = ltb-false n room t in
     sym (behind_out room _ (suc n) bytes (omega (arith, h))) ∙ sym (behind_out room buffer n (x ∷ []) h) ∙ behind_out room buffer n (x ∷ bytes) h)
 
--- those that there is room for were put
-pub behind_put : (room : ℕ) (bytes : List ℕ) (n : ℕ) {buffer after q : List ℕ} {end : ℕ} → q ≡ take (room - n) bytes → Wrote buffer n q after end → after ≡ behind room buffer n bytes
-unfolding behind
-behind_put room bytes n {buffer} {after} {q} {end} e w = rw (sym e) w.text
-
-pub fits : (room n : ℕ) (q bytes : List ℕ) → n < room → q ≡ take (room - n) bytes → n + length q ≤ room
-fits room n q bytes h e = omega (arith, ap length e, length-take (room - n) bytes)
-
 -- a part of the buffer was written to
 pub part_put : (room : ℕ) (buffer bytes : List ℕ) (n : ℕ) {q after : List ℕ} → length buffer ≡ room → n < room → q ≡ take (room - n) bytes → after ≡ q
     → put_mid n (n + length q - n) buffer after ≡ behind room buffer n bytes
@@ -261,9 +216,3 @@ part_put room buffer bytes n {q} {after} size h e f =
     let few : n + length q ≤ length buffer = omega (arith, ap length e, length-take (room - n) bytes, size) in
     let k : n + length q - n ≡ length q = omega arith in
     rw (f, k, ← e) (rw (written_parts buffer n q few) (rw (drop-drop (length q) n buffer) (sym (append_assoc (take n buffer) q _))))
-
--- put at the start, the bytes are the start
-pub wrote_start : (old bytes new : List ℕ) (end : ℕ) → Wrote old 0 bytes new end → end ≤ length old → take end new ≡ bytes
-wrote_start old bytes new end w h =
-    let e : end ≡ length bytes = omega (arith, w.place) in
-    rw (w.text, e) (rw (written_parts old 0 bytes (omega (arith, w.place))) (take-append_seam bytes _))

@@ -16,7 +16,7 @@ fn closed(out: &mut Page) -> Result<()> {
 }
 
 fn opened(out: &mut Page, a: Answer) -> Result<()> {
-    answer(out, a)?;
+    answer(out, a);
     writeln!(out)
 }
 
@@ -39,10 +39,10 @@ fn moved(out: &mut Page, before: &Desk, after: &Desk, arrived: Option<usize>) ->
         .and_then(|n| messages::under(old, n))
         .filter(messages::is_list);
     if let Some(n) = arrived {
-        messages::tell(out, "  arrived message ", before, n)?;
+        messages::tell(out, "  arrived message ", before, n);
     }
-    messages::tell_each(out, "  sent message ", after, set)?;
-    rings::recorded_since(out, "  ring recorded: ", old, new)?;
+    messages::tell_each(out, "  sent message ", after, set);
+    rings::recorded_since(out, "  ring recorded: ", old, new);
     if list.is_some() && set == 0 && sums::tally(*new) == sums::tally(*old) {
         writeln!(out, "  the list ends without a new ring")?;
     }
@@ -63,7 +63,7 @@ fn delivered(out: &mut Page, acted: &Acted) -> Result<()> {
     let made = acted.made;
     let left = size(acted.desk.board.occupied);
     let deliveries = counted(made, "delivery", "deliveries");
-    answer(out, acted.answer)?;
+    answer(out, acted.answer);
     write!(out, ": {made} {deliveries}")?;
     if left != 0 {
         let messages = counted(left, "message", "messages");
@@ -72,26 +72,21 @@ fn delivered(out: &mut Page, acted: &Acted) -> Result<()> {
     writeln!(out)
 }
 
-// A drain, or a follow, whose deliveries and rings have been told.
-fn drained(out: &mut Page, before: &Desk, acted: &Acted, followed: bool) -> Result<()> {
-    let old = &before.board;
+// A drain, or a follow, apart from its rings: those of a follow have been told with its deliveries, and a refused drain records none.
+fn drained(out: &mut Page, before: &Desk, acted: &Acted) -> Result<()> {
     if !acted.answer.is_done() {
-        return refused(out, acted.answer, old);
+        return refused(out, acted.answer, &before.board);
     }
-    delivered(out, acted)?;
-    if followed {
-        return Ok(());
-    }
-    rings::recorded_since(out, "  ring recorded: ", old, &acted.desk.board)
+    delivered(out, acted)
 }
 
 // ---- what changes nothing
 fn whole_board(out: &mut Page, desk: &Desk) -> Result<()> {
     let b = &desk.board;
-    nodes::all(out, b)?;
+    nodes::all(out, b);
     writeln!(out, "only the whole board shows")?;
-    messages::in_flight(out, desk)?;
-    rings::recorded(out, b)?;
+    messages::in_flight(out, desk);
+    rings::recorded(out, b);
     writeln!(out, "  load {} of at most 64", sums::load(*b))
 }
 
@@ -118,22 +113,24 @@ fn one_node(out: &mut Page, desk: &Desk, verb: Verb, node: u16) -> Result<()> {
         Verb::Waits => waits::one(out, b, node),
         _ => messages::in_flight_to(out, desk, node),
     }
+    Ok(())
 }
 
 fn shown_all(out: &mut Page, desk: &Desk, verb: Verb) -> Result<()> {
     let b = &desk.board;
     match verb {
-        Verb::Show => whole_board(out, desk),
+        Verb::Show => whole_board(out, desk)?,
         Verb::Messages => messages::in_flight(out, desk),
         Verb::Waits => {
-            waits::all(out, b)?;
-            rings::existing(out, b)
+            waits::all(out, b);
+            rings::existing(out, b);
         }
         _ => {
-            rings::recorded(out, b)?;
-            rings::existing(out, b)
+            rings::recorded(out, b);
+            rings::existing(out, b);
         }
     }
+    Ok(())
 }
 
 fn shown(out: &mut Page, desk: &Desk, t: &Typed) -> Result<()> {
@@ -147,14 +144,25 @@ fn shown(out: &mut Page, desk: &Desk, t: &Typed) -> Result<()> {
 }
 
 // What a line did to the desk. An undo is told with what it takes back.
-pub fn tell(out: &mut Page, before: &Desk, t: &Typed, acted: &Acted) -> Result<()> {
+pub fn tell(out: &mut Page, before: &Desk, t: &Typed, acted: &Acted) {
+    let _full = put(out, before, t, acted);
+}
+
+fn put(out: &mut Page, before: &Desk, t: &Typed, acted: &Acted) -> Result<()> {
     match t.verb {
         Verb::Open => opened(out, acted.answer),
         Verb::Request | Verb::Release | Verb::Deliver => stepped(out, before, acted),
-        Verb::Drain => drained(out, before, acted, false),
-        Verb::Follow => drained(out, before, acted, true),
+        Verb::Drain => {
+            drained(out, before, acted)?;
+            rings::recorded_since(out, "  ring recorded: ", &before.board, &acted.desk.board);
+            Ok(())
+        }
+        Verb::Follow => drained(out, before, acted),
         Verb::Show | Verb::Messages | Verb::Waits | Verb::Rings => shown(out, before, t),
-        Verb::Help => replies::help::tell(out),
+        Verb::Help => {
+            replies::help::tell(out);
+            Ok(())
+        }
         _ => Ok(()),
     }
 }

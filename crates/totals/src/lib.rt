@@ -15,19 +15,21 @@ pub struct Totals {
     pub sheets: u64,
     pub ran: u64,
     pub refused: u64,
+    // By the number of the answer, which is the place (`ByNumber` of term); places that no sheet is refused with stay 0.
     pub refused_with: [u64; 17],
     pub ringed: u64,
     pub rings: [u64; 17],
 }
 
-// What a sheet comes to: its answer, and the rings that are recorded on its final board.
+// What a sheet comes to: its answer, and the rings that are recorded on its final board. No Result: the definitions `came` and `noted` take
+// the answer and the rings beside it, none where the sheet was refused.
 #[derive(Clone, Copy, PartialEq, Eq)]
 pub struct Came {
     pub answer: Answer,
     pub rings: [Ring; 16],
 }
 
-// No sheet yet.
+// No sheet yet: the default, by the name that stands for the chart of no sheets (`totals_of`).
 pub fn none() -> Totals
     ensures { result ≡ Chart.totals_of [] }
 {
@@ -64,7 +66,7 @@ fn with_rings(table: [u64; 17], rings: [Ring; 16]) -> [u64; 17]
     next
 }
 
-// A sheet that was refused with this number.
+// A sheet that was refused with this number: the place of the table (`ByNumber` of term), so no Answer.
 fn refused(t: Totals, code: usize) -> Totals
     ensures { result ≡ Chart.plus t 0 1 (λ n. pick (eqb n code) 1 0) 0 (λ l. 0) }
 {

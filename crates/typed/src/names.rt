@@ -53,7 +53,7 @@ pub fn verb_of(word: &[u8]) -> Verb
     .unwrap_or(Verb::Unknown)
 }
 
-// The number of the mode that a word names.
+// The number of the mode that a word names: a line's words all stand for numbers (`meaning`), and a board takes a mode as one.
 pub fn mode_of(word: &[u8]) -> Option<u16>
     ensures { result ≡ mode_or (Names.place_in word.now (words Names.mode_names)) None }
 {

@@ -4,7 +4,7 @@ ghost use Rattle.typed.specs.Numbers as Numbers;
 
 use crate::Verb;
 
-// A decimal number, the largest where it is above that: digits alone, one or more.
+// A decimal number, the largest where it is above that: digits alone, one or more. No parse, which refuses a number that is too large.
 fn decimal(word: &[u8]) -> Option<u16>
     ensures { result ≡ Numbers.decimal word.now }
 {
@@ -21,7 +21,7 @@ fn decimal(word: &[u8]) -> Option<u16>
     Some(n)
 }
 
-// The number of the mode that a word names, or a number.
+// The number of the mode that a word names, or a number: a line's words all stand for numbers (`meaning`).
 #[tactic(auto, using(crate::proofs::Decimals::mode_is))]
 fn mode(word: &[u8]) -> Option<u16>
     ensures { result ≡ Numbers.mode word.now }

@@ -4,7 +4,7 @@
 ghost use Rattle.std.specs.Prelude.{◌≡◌, ◌<◌, ◌≤◌};
 ghost use Rattle.rules.specs.Bits as Bits;
 
-// A number as a place in a table.
+// A number as a place in a table. Its clause says that a place is below 256, which `usize::from` does not.
 pub fn wide(x: u8) -> usize
     ensures { (result ≡ x) × (result < 256) }
 {
@@ -35,7 +35,7 @@ pub fn without(set: u64, k: u8) -> u64
     set & !(1 << k)
 }
 
-// The set with number k in it, or not.
+// The set with number k in it, or not: one function for both, as the rules' `marked`, which takes `to`.
 pub fn marked(set: u64, k: u8, to: bool) -> u64
     requires { k < 64 }
     ensures { result ≡ Bits.marked set k to }

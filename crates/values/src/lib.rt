@@ -1,4 +1,4 @@
-// Single values: sets as bits of a number, modes, counts, homes, the numbers of the answers, the load of a message. Most crates stand on these.
+// Single values: sets as bits of a number, modes, counts, homes, the load of a message. Most crates stand on these.
 #![tactic(auto)]
 
 pub mod bits;

@@ -16,7 +16,7 @@ pub fn kind_load(k: Kind) -> usize
     }
 }
 
-// The entries of no list.
+// The entries of no list: the default, by the name that the rules have for it, and said to equal it.
 pub fn no_entries() -> Entries
     ensures { result ≡ Lists.no_entries }
 {

@@ -10,7 +10,7 @@ use rules::{Board, Mode, Object};
 use std::io::{Result, Write};
 use text::Page;
 use values::bits::{has, wide};
-use words::{Members, numbers, on_or_below, size};
+use words::{Members, counted, numbers, on_or_below, size};
 
 // Those who stand ahead of place k in conflict with process p in the mode, and are not among the holders that it waits for.
 fn in_conflict(o: &Object, p: u8, m: Mode, k: usize, holders: u64) -> ArrayVec<u8, 16>
@@ -28,13 +28,13 @@ fn in_conflict(o: &Object, p: u8, m: Mode, k: usize, holders: u64) -> ArrayVec<u
 // ---- whom a process waits for, in a row that ends early enough for the words behind it
 fn hold(out: &mut Page, set: u64) -> Result<()> {
     numbers(out, 84, 'p', Members::of(set))?;
-    let verb = if size(set) == 1 { "holds" } else { "hold" };
+    let verb = counted(size(set), "holds", "hold");
     write!(out, ", which {verb} it")
 }
 
 fn stand_ahead(out: &mut Page, who: &[u8]) -> Result<()> {
     numbers(out, 81, 'p', who.iter().copied())?;
-    let verb = if who.len() == 1 { "stands" } else { "stand" };
+    let verb = counted(who.len(), "stands", "stand");
     write!(out, ", which {verb} ahead")
 }
 
@@ -89,7 +89,11 @@ fn at_node(out: &mut Page, b: &Board, node: u8) -> Result<()> {
 }
 
 // Who waits at one node.
-pub fn one(out: &mut Page, b: &Board, node: u8) -> Result<()> {
+pub fn one(out: &mut Page, b: &Board, node: u8) {
+    let _full = put_one(out, b, node);
+}
+
+fn put_one(out: &mut Page, b: &Board, node: u8) -> Result<()> {
     let begun = out.len();
     at_node(out, b, node)?;
     if out.len() == begun {
@@ -101,7 +105,11 @@ pub fn one(out: &mut Page, b: &Board, node: u8) -> Result<()> {
     Ok(())
 }
 
-pub fn all(out: &mut Page, b: &Board) -> Result<()> {
+pub fn all(out: &mut Page, b: &Board) {
+    let _full = put_all(out, b);
+}
+
+fn put_all(out: &mut Page, b: &Board) -> Result<()> {
     let begun = out.len();
     for node in 0..8 {
         at_node(out, b, node)?;

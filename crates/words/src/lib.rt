@@ -12,6 +12,7 @@ use rules::Mode;
 use std::io::{Result, Write};
 use text::Page;
 use values::bits::{has, with};
+use values::mode::mode_if;
 
 // ---- sets
 // The numbers in a set, by rising number.
@@ -68,11 +69,7 @@ pub fn places<T, F: Fn(&T) -> bool>(row: &[T], test: F) -> u64
 pub fn mode_in(exclusive: u64, k: u8) -> Mode
     ensures { result ≡ mode_if (ltb k 64 && taken exclusive k) }
 {
-    if k < 64 && has(exclusive, k) {
-        Mode::Exclusive
-    } else {
-        Mode::Shared
-    }
+    mode_if(k < 64 && has(exclusive, k))
 }
 
 // The word for one thing, or for several.

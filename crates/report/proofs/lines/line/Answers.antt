@@ -1,5 +1,6 @@
 -- `report::lines::line` meets its contract: each place of the line has its entry. Assumes nothing.
-use Rattle.std.proofs.Common.{Bool, ap₂, arith, ℕ, ◌∷◌, [], length-take}
+use Rattle.std.proofs.Common.{ap, ap₂, arith, ℕ, ◌∷◌, [], ◌∙◌, length-take}
+use Rattle.rules.specs.declared.Mode.{Mode}
 use Rattle.rules.specs.Book.{mode_if}
 use Rattle.text.specs.Text.{after_spaces}
 use Rattle.printed.specs.Lines.{entry}
@@ -14,7 +15,7 @@ pub loop-k-preserved : goal.loop-k-preserved
 loop-k-preserved c = record {
   room = omega arith;
   text = rows_added _ _ _ c.loop-k.invariant.text
-      (added_as _ (ap₂ (λ (x : ℕ) (m : Bool). after_spaces (entry x (mode_if m) ∷ [])) (first_at _ c.args.o.now.line c.loop-k.k _ _ c.loop-k-test.true) c.has.ensures) c.entry.ensures.text);
+      (added_as _ (ap₂ (λ (x : ℕ) (m : Mode). after_spaces (entry x m ∷ [])) (first_at _ c.args.o.now.line c.loop-k.k _ _ c.loop-k-test.true) (c.mode_if.ensures ∙ ap mode_if c.has.ensures)) c.entry.ensures.text);
 }
 
 pub returns-clause-text : goal.returns-clause-text

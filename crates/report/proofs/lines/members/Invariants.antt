@@ -1,5 +1,5 @@
 -- The processes that were passed have their numbers.
-use Rattle.std.proofs.Common.{◌≡◌, ◌+◌, ◌*◌, ◌≤◌, get_or}
+use Rattle.std.proofs.Common.{◌+◌, ◌*◌, ◌≤◌, get_or}
 use Rattle.arrayvec.specs.ArrayVec.{array_vec_len, Extends}
 use Rattle.rules.specs.Tables.{rows}
 use Rattle.text.specs.Text.{after_spaces, decimal}

@@ -1,5 +1,5 @@
 -- `report::lines::object_lines` meets its contract: each object has its line. Assumes nothing.
-use Rattle.std.proofs.Common.{ap, rules, arith, length-take}
+use Rattle.std.proofs.Common.{ap, arith, length-take}
 use Rattle.rules.specs.declared.Object.{Object}
 use Rattle.printed.specs.Lines.{object_line}
 use Rattle.printed.proofs.Lines.{objects_whole, first_at}
