@@ -7,8 +7,8 @@ use native.Mathlib.Numerals.{add-one}
 use native.Mathlib.Decide.{dec_lt}
 use Rattle.std.proofs.lemmas.List.{drop-drop}
 use lib.Dec.{ltb}
-use lib.ListN.{length, take, drop, get_or, set, length-take}
-use lib.Seq.{sets, sets-eq, length-sets}
+use lib.ListN.{length, take, drop, get_or, set, length-append, length-take}
+use lib.Seq.{sets, sets-eq, length-sets, take-append_seam}
 use borrow.Author.Tests.{ltb-true, ltb-false, lt-ltb, le-ltb}
 use borrow.Rule.Slice.PartMut.{put_mid}
 use Rattle.std.specs.Prelude.{min}
@@ -16,7 +16,7 @@ use Rattle.std.proofs.Math.Nat.{min-eq_left, min-eq_right}
 use Rattle.std.specs.Fmt.{decimal as written_decimal}
 use Rattle.std.proofs.lemmas.Fmt.{decimal_from_appends, length-decimal-le, length-decimal-le_succ}
 use Rattle.rules.proofs.Tables.{by_test}
-use Rattle.text.specs.Text.{digits, decimal, read_on, after_spaces, flat, at_most, written, behind}
+use Rattle.text.specs.Text.{digits, decimal, read_on, after_spaces, flat, at_most, written, behind, Wrote}
 
 -- ---- a number in decimal
 digits_one : (d n : ℕ) → n < 10 → digits (suc d) n ≡ (48 + n) ∷ []
@@ -48,15 +48,40 @@ pub decimal_is : (n : ℕ) → n < 2 ^ 64 → written_decimal n ≡ decimal n
 unfolding decimal
 decimal_is n h = sym (decimal_from_appends digits (record { one = digits_one; more = digits_more }) (suc n) n h (omega (arith, length-decimal-le_succ n h)))
 
-module _ (n : ℕ) {l : List ℕ} (e : l ≡ written_decimal n) where
-  pub four_digits : n < 10000 → length l ≤ 4
-  four_digits h = omega (arith, ap length e, length-decimal-le 4 n (omega arith) h (omega arith))
+-- two digits, and three or four of which the last two stand apart
+pub decimal_two : (n : ℕ) → 10 ≤ n → n < 100 → ((48 + n / 10) ∷ []) ++ (48 + n % 10) ∷ [] ≡ decimal n
+decimal_two n h g = rw (decimal_more n h, decimal_one (n / 10) (omega arith))
 
-  pub room_left : (end : ℕ) → length l ≤ 20 → (n < 10000 → end + 4 ≤ 65536) × (10000 ≤ n → end + 20 ≤ 65536) → end + length l ≤ 65536
-  room_left end short room = elim (dec_lt n 10000) [
-    | yes h ↦ omega (arith, room.0 h, four_digits h)
-    | no f ↦ omega (arith, room.1 (omega (arith, f)))
-  ]
+pub decimal_four : (n : ℕ) → 100 ≤ n → (decimal (n / 100) ++ (48 + n / 10 % 10) ∷ []) ++ (48 + n % 10) ∷ [] ≡ decimal n
+decimal_four n h =
+    let e : n / 10 / 10 ≡ n / 100 = omega arith in
+    rw (decimal_more n (omega arith), decimal_more (n / 10) (omega arith), e)
+
+-- how many digits there are: one, or one behind those of the tens
+pub length_one : (n : ℕ) → n < 10 → length (decimal n) ≡ 1
+length_one n h = ap length (decimal_one n h)
+
+pub length_more : (n : ℕ) → 10 ≤ n → length (decimal n) ≡ length (decimal (n / 10)) + 1
+length_more n h = ap length (decimal_more n h) ∙ length-append (decimal (n / 10)) ((48 + n % 10) ∷ [])
+
+-- four at most below 10,000, twenty at most in 64 bits, and all but the last of these are nineteen at most
+decimal_length : (k n : ℕ) → 0 < k → n < 10 ^ k → n < 2 ^ 64 → length (decimal n) ≤ k
+decimal_length k n some short fits = omega (arith, ap length (decimal_is n fits), length-decimal-le k n some short fits)
+
+pub four_digits : (n : ℕ) → n < 10000 → length (decimal n) ≤ 4
+four_digits n h = decimal_length 4 n (omega arith) h (omega arith)
+
+pub twenty_digits : (n : ℕ) → n < 2 ^ 64 → length (decimal n) ≤ 20
+twenty_digits n h = decimal_length 20 n (omega arith) (omega arith) h
+
+pub higher_length : (n : ℕ) → n < 2 ^ 64 → length (decimal (n / 10)) ≤ 19
+higher_length n h = decimal_length 19 (n / 10) (omega arith) (omega arith) (omega arith)
+
+pub room_left : (n end : ℕ) → n < 2 ^ 64 → (n < 10000 → end + 4 ≤ 65536) × (10000 ≤ n → end + 20 ≤ 65536) → end + length (decimal n) ≤ 65536
+room_left n end fits room = elim (dec_lt n 10000) [
+  | yes h ↦ omega (arith, room.0 h, four_digits n h)
+  | no f ↦ omega (arith, room.1 (omega (arith, f)), twenty_digits n fits)
+]
 
 -- no leading zero
 digits_lead : (d n : ℕ) → n < d → 0 < n → (z : ℕ) → 48 < get_or (digits d n) 0 z
@@ -173,10 +198,56 @@ pub at_most_is : (top : ℕ) {k n w m : ℕ} → k ≡ n → n ≡ at_most top w
 at_most_is top d e f = d ∙ e ∙ ap (at_most top) f
 
 -- ---- bytes in a buffer
+sets_append : (xs ys l : List ℕ) (at : ℕ) → sets l at (xs ++ ys) ≡ sets (sets l at xs) (at + length xs) ys
+sets_append [] ys l at = ap (λ (k : ℕ). sets l k ys) (omega arith)
+sets_append (x ∷ xs) ys l at = sets_append xs ys (set l at x) (suc at) ∙ ap (λ (k : ℕ). sets (sets (set l at x) (suc at) xs) k ys) (omega arith)
+
+module _ {old : List ℕ} {at : ℕ} where
+  -- nothing is put
+  pub wrote_none : Wrote old at [] old at
+  unfolding written
+  wrote_none = record { text = refl; place = omega arith }
+
+  -- one byte is put
+  pub wrote_one : {x : ℕ} → Wrote old at (x ∷ []) (set old at x) (at + 1)
+  unfolding written
+  wrote_one = record { text = refl; place = refl }
+
+  -- one after the other is both
+  pub wrote_then : {xs ys new last : List ℕ} {to end : ℕ} → Wrote old at xs new to → Wrote new to ys last end → Wrote old at (xs ++ ys) last end
+  unfolding written
+  wrote_then {xs} {ys} {new} {last} {to} {end} a b = record {
+    text = b.text ∙ ap (λ (l : List ℕ). sets l to ys) a.text ∙ ap (λ (k : ℕ). sets (sets old at xs) k ys) a.place ∙ sym (sets_append xs ys old at);
+    place = omega (arith, a.place, b.place, length-append xs ys);
+  }
+
+  pub wrote_as : {xs ys new : List ℕ} {end : ℕ} → xs ≡ ys → Wrote old at xs new end → Wrote old at ys new end
+  wrote_as {xs} {ys} {new} {end} e w = rw (sym e) w
+
+  pub wrote_at : {xs new : List ℕ} {end to : ℕ} → end ≡ to → Wrote old at xs new end → Wrote old at xs new to
+  wrote_at {xs} {new} {end} {to} e w = rw (sym e) w
+
+-- bytes put at a place leave one buffer and one place after them
+pub wrote_only : {old bytes new other : List ℕ} {at end to : ℕ} → Wrote old at bytes new end → Wrote old at bytes other to → ◌≡◌ {A = List ℕ × ℕ} (new, end) (other, to)
+wrote_only a b i = ((a.text ∙ sym b.text) i, (a.place ∙ sym b.place) i)
+
 -- the buffer afterwards: what was before the place, the bytes, and what lies behind them
 pub written_parts : (old : List ℕ) (at : ℕ) (bytes : List ℕ) → at + length bytes ≤ length old → written old at bytes ≡ take at old ++ bytes ++ drop (at + length bytes) old
 unfolding written
 written_parts old at bytes h = sets-eq bytes old at h
+
+-- put at the start, the bytes are the start
+pub wrote_start : (old bytes new : List ℕ) (end : ℕ) → Wrote old 0 bytes new end → end ≤ length old → take end new ≡ bytes
+wrote_start old bytes new end w h =
+    let e : end ≡ length bytes = omega (arith, w.place) in
+    rw (w.text, e) (rw (written_parts old 0 bytes (omega (arith, w.place))) (take-append_seam bytes _))
+
+-- the bytes went to a part of the buffer that is as long as they are
+pub part_written : (old bytes : List ℕ) (at : ℕ) {after : List ℕ} → at + length bytes ≤ length old → after ≡ bytes
+    → put_mid at (at + length bytes - at) old after ≡ written old at bytes
+part_written old bytes at few e =
+    let k : at + length bytes - at ≡ length bytes = omega arith in
+    rw (e, k) (rw (written_parts old at bytes few) (rw (drop-drop (length bytes) at old) (sym (append_assoc (take at old) bytes _))))
 
 -- ---- bytes behind those that came before
 pub behind_length : (room : ℕ) (buffer : List ℕ) (n : ℕ) (bytes : List ℕ) → length (behind room buffer n bytes) ≡ length buffer
@@ -214,5 +285,4 @@ pub part_put : (room : ℕ) (buffer bytes : List ℕ) (n : ℕ) {q after : List 
 unfolding behind
 part_put room buffer bytes n {q} {after} size h e f =
     let few : n + length q ≤ length buffer = omega (arith, ap length e, length-take (room - n) bytes, size) in
-    let k : n + length q - n ≡ length q = omega arith in
-    rw (f, k, ← e) (rw (written_parts buffer n q few) (rw (drop-drop (length q) n buffer) (sym (append_assoc (take n buffer) q _))))
+    rw (← e) (part_written buffer q n few f)

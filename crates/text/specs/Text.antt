@@ -1,6 +1,6 @@
 -- Text as a list of bytes: letters, a number in decimal, words parted by spaces, lines one after another; and bytes put into a lent buffer
 -- at a place.
-use Rattle.std.specs.Prelude.{ℕ, zero, suc, ◌+◌, ◌-◌, ◌*◌, ◌/◌, ◌%◌, true, false, List, [], ◌∷◌, ◌++◌, ltb, take}
+use Rattle.std.specs.Prelude.{ℕ, zero, suc, ◌+◌, ◌-◌, ◌*◌, ◌/◌, ◌%◌, ◌≡◌, true, false, List, [], ◌∷◌, ◌++◌, ltb, length, take}
 use Rattle.std.proofs.lemmas.List.Edits.{sets}
 pub use Rattle.rules.specs.Letters.{bytes}
 use Rattle.rules.specs.Tables.{pick}
@@ -52,3 +52,8 @@ written old at bytes = sets old at bytes
 -- bytes behind the n that came before, in a buffer for so many: those that there is room for
 unfoldable pub behind : ℕ → List ℕ → ℕ → List ℕ → List ℕ
 behind room buffer n bytes = written buffer n (take (room - n) bytes)
+
+-- the bytes were put there, and the place after them was handed back
+pub record Wrote (old : List ℕ) (at : ℕ) (bytes : List ℕ) (new : List ℕ) (end : ℕ) : Type 0 where
+  pub text : new ≡ written old at bytes
+  pub place : end ≡ at + length bytes

@@ -1,6 +1,8 @@
 // Text, put piece by piece at the end of one page: a byte, a word, a number. What a program prints is built of these, and each is an equation
-// with its definition in specs/.
+// with its definition in specs/. The module `placed` puts them at any place of a lent buffer.
 #![tactic(auto)]
+
+pub mod rows;
 
 ghost use Rattle.std.specs.Prelude.{◌≡◌, [], ◌∷◌, ◌+◌, ◌<◌, ◌≤◌, length, take};
 ghost use Rattle.arrayvec.specs.ArrayVec.{array_vec_len, Extends};
@@ -8,6 +10,8 @@ ghost use Rattle.text.specs.Text.{decimal, at_most, behind};
 
 use arrayvec::ArrayVec;
 use itoa::Buffer;
+
+pub mod placed;
 
 // What is printed at once: a text of at most 65,536 bytes.
 pub type Page = ArrayVec<u8, 65536>;
@@ -28,12 +32,61 @@ pub fn word(out: &mut Page, letters: &[u8])
     out.try_extend_from_slice(letters).unwrap();
 }
 
+fn digit(out: &mut Page, d: u64)
+    requires { (array_vec_len out.old < 65536) × (d < 10) }
+    ensures { Extends out.old ((48 + d) ∷ []) out.new × (array_vec_len out.new ≡ array_vec_len out.old + 1) }
+{
+    put(out, b'0' + d as u8);
+}
+
 // A number in decimal, with room for four digits or, where it has more, for twenty.
 pub fn number(out: &mut Page, n: u64)
     requires { (n < 10000 → array_vec_len out.old + 4 ≤ 65536) × (10000 ≤ n → array_vec_len out.old + 20 ≤ 65536) }
     ensures { Extends out.old (decimal n) out.new
         × (n < 10000 → array_vec_len out.new ≤ array_vec_len out.old + 4)
         × (array_vec_len out.new ≤ array_vec_len out.old + 20) }
+{
+    if n < 10 {
+        digit(out, n);
+    } else {
+        higher(out, n / 10);
+        digit(out, n % 10);
+    }
+}
+
+// The digits before the last, of a number with so many tens.
+fn higher(out: &mut Page, tens: u64)
+    requires { array_vec_len out.old + length (decimal tens) ≤ 65536 }
+    ensures { Extends out.old (decimal tens) out.new × (array_vec_len out.new ≡ array_vec_len out.old + length (decimal tens)) }
+{
+    if tens < 10 {
+        digit(out, tens);
+    } else if tens < 1000 {
+        highest(out, tens / 10);
+        digit(out, tens % 10);
+    } else {
+        long(out, tens);
+    }
+}
+
+// The first one or two of three or four digits, of a number with so many hundreds.
+fn highest(out: &mut Page, hundreds: u64)
+    requires { (array_vec_len out.old + length (decimal hundreds) ≤ 65536) × (hundreds < 100) }
+    ensures { Extends out.old (decimal hundreds) out.new × (array_vec_len out.new ≡ array_vec_len out.old + length (decimal hundreds)) }
+{
+    if hundreds < 10 {
+        digit(out, hundreds);
+    } else {
+        digit(out, hundreds / 10);
+        digit(out, hundreds % 10);
+    }
+}
+
+// Any number, as the library writes it. Few have more than four digits: kept apart, it leaves `number` small enough to be put into its callers.
+#[inline(never)]
+fn long(out: &mut Page, n: u64)
+    requires { array_vec_len out.old + length (decimal n) ≤ 65536 }
+    ensures { Extends out.old (decimal n) out.new × (array_vec_len out.new ≡ array_vec_len out.old + length (decimal n)) }
 {
     word(out, Buffer::new().format(n).as_bytes());
 }

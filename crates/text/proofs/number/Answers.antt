@@ -1,14 +1,24 @@
--- `text::number` meets its contract: the library writes the definition's digits. Assumes nothing.
-use Rattle.std.proofs.Common.{◌∙◌, arith}
-use Rattle.text.proofs.Text.{decimal_is, four_digits, room_left}
+-- `text::number` meets its contract: one digit, or the last behind the higher ones. Assumes nothing.
+use Rattle.std.proofs.Common.{[], ◌∷◌, ◌+◌, ◌/◌, ◌%◌, sym, arith}
+use Rattle.text.specs.Text.{decimal}
+use Rattle.text.proofs.Text.{decimal_one, decimal_more, length_more, four_digits, higher_length, room_left, added_as, added_two}
 use Rattle.text.proofs.number.Goals as goal
 
-pub word-requires : goal.word-requires
-word-requires c = room_left c.args.n (c.as_bytes.ensures.value ∙ c.format.ensures.text) _ (omega arith) c.requires
+pub higher-requires : goal.higher-requires
+higher-requires c = omega (arith, room_left c.args.n _ c.ranges.n.fits c.requires, length_more c.args.n c.if-n-lt10.false)
 
-pub returns : goal.returns
-returns c = (
-  let e = decimal_is c.args.n c.ranges.n.fits in cc,
-  λ h. omega (arith, four_digits c.args.n (c.as_bytes.ensures.value ∙ c.format.ensures.text) h),
-  omega arith,
-)
+pub digit-requires-else-n-lt10 : goal.digit-requires-else-n-lt10
+digit-requires-else-n-lt10 c = omega (arith, room_left c.args.n _ c.ranges.n.fits c.requires, length_more c.args.n c.if-n-lt10.false)
+
+pub returns-then-n-lt10 : goal.returns-then-n-lt10
+returns-then-n-lt10 c =
+    (added_as c.args.out.now.items (sym (decimal_one c.args.n c.if-n-lt10.true)) c.digit.ensures.0, λ h. omega arith, omega arith)
+
+pub returns-else-n-lt10 : goal.returns-else-n-lt10
+returns-else-n-lt10 c =
+    let more = length_more c.args.n c.if-n-lt10.false in (
+      added_two c.args.out.now.items (decimal (c.args.n / 10)) ((48 + c.args.n % 10) ∷ []) c.higher.ensures.0 c.digit-else-n-lt10.ensures.0
+          (sym (decimal_more c.args.n c.if-n-lt10.false)),
+      λ h. omega (arith, more, four_digits c.args.n h),
+      omega (arith, higher_length c.args.n c.ranges.n.fits),
+    )
