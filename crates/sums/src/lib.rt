@@ -1,7 +1,7 @@
 // The two sums over a board: its load and its ring tally.
 #![tactic(auto)]
 
-ghost use Rattle.std.specs.Prelude.{◌≡◌, ◌≤◌, ltb};
+ghost use Rattle.std.specs.Prelude.{◌≡◌, ◌≤◌};
 ghost use Rattle.rules.specs.Tables.{sum};
 ghost use Rattle.rules.specs.Board as Rules;
 
@@ -38,25 +38,26 @@ pub fn load(b: Board) -> usize
     in_messages(b) + in_lines(b)
 }
 
-// A place that holds a recorded ring.
-fn is_filled(ring: &Ring) -> bool
-    ensures { result ≡ ltb 0 ring.now.count }
-{
-    0 < ring.count
-}
-
-// Whether the ring at the place of starter s counts, where recorded rings are counted.
+// Whether the ring at the place of starter s counts, where recorded rings are counted: the tally, and the lengths of a chart
+// (`totals::with_rings`), both ask here.
+#[inline]
 pub fn counts(rings: [Ring; 16], s: usize) -> bool
     ensures { result ≡ Rules.counts rings s }
 {
-    rings.get(s).is_some_and(|ring| is_filled(ring))
+    rings.get(s).is_some_and(|ring| 0 < ring.count)
 }
 
 // How many of the recorded rings count.
 pub fn tally_of(rings: [Ring; 16]) -> usize
     ensures { (result ≡ Rules.tally_of rings) × (result ≤ 16) }
 {
-    rings.iter().filter(|ring| is_filled(ring)).count()
+    let mut tally = 0;
+    for s in 0..16 {
+        if counts(rings, s) {
+            tally += 1;
+        }
+    }
+    tally
 }
 
 // "The ring tally is the number of filled places."

@@ -114,22 +114,20 @@ pub none_within : (t : List ℕ) (rings : List Ring) → length t ≡ 17 → t �
 unfolding sum
 none_within t rings e = none_more_at t e
 
--- the ring at place s, of length i, counts at its length, or nowhere
-module _ (t next : List ℕ) (rings : List Ring) (s : ℕ) (e : next ≡ rows 17 (λ l. more (get_or t l 0) (within rings s l))) {i : ℕ} (is : i ≡ (get_or rings s no_ring).count) where
-  pub ring_counts : 0 < i → rows 17 (λ l. more (get_or next l 0) (at i l)) ≡ rows 17 (λ l. more (get_or t l 0) (within rings (s + 1) l))
+-- the ring at place s counts at its length, or nowhere
+module _ (t next : List ℕ) (rings : List Ring) (s : ℕ) (e : next ≡ rows 17 (λ l. more (get_or t l 0) (within rings s l))) where
+  pub ring_counts : {i : ℕ} → i ≡ (get_or rings s no_ring).count → counts rings s ≡ true → rows 17 (λ l. more (get_or next l 0) (at i l)) ≡ rows 17 (λ l. more (get_or t l 0) (within rings (s + 1) l))
   unfolding sum
-  ring_counts c =
-      let some : counts rings s ≡ true = ap (ltb 0) (sym is) ∙ lt-ltb 0 i c in
+  ring_counts {i} is some =
       rows_ext 17 _ _ (λ l h.
       ap (λ (x : ℕ). more x (at i l)) (ap (λ (x : List ℕ). get_or x l 0) e ∙ rows_at 17 _ l 0 h)
       ∙ more_twice (get_or t l 0) (within rings s l) (at i l)
       ∙ ap (λ (x : ℕ). more (get_or t l 0) (within rings s l + x)) (rw (some, is))
       ∙ ap (λ (x : ℕ). more (get_or t l 0) (within rings x l)) (sym (add-one s)))
 
-  pub no_ring_counts : i ≤ 0 → next ≡ rows 17 (λ l. more (get_or t l 0) (within rings (s + 1) l))
+  pub no_ring_counts : counts rings s ≡ false → next ≡ rows 17 (λ l. more (get_or t l 0) (within rings (s + 1) l))
   unfolding sum
-  no_ring_counts c =
-      let none : counts rings s ≡ false = ap (ltb 0) (sym is) ∙ le-ltb 0 i c in
+  no_ring_counts none =
       e ∙ rows_ext 17 _ _ (λ l h. ap (more (get_or t l 0)) (rw none (omega arith)) ∙ ap (λ (x : ℕ). more (get_or t l 0) (within rings x l)) (sym (add-one s)))
 
 -- one more where a number is not zero

@@ -58,8 +58,8 @@ fn with_rings(table: [u64; 17], rings: [Ring; 16]) -> [u64; 17]
     ensures { result ≡ rows 17 (λ l. Chart.more (get_or table l 0) (rings_of_length rings l)) }
 {
     let mut next = table;
-    for ring in &rings {
-        if 0 < ring.count {
+    for (s, ring) in rings.iter().enumerate() {
+        if sums::counts(rings, s) {
             one_more_at(&mut next, usize::from(ring.count));
         }
     }

@@ -5,5 +5,5 @@ use Rattle.totals.specs.Totals.{more}
 use Rattle.totals.proofs.Laws.{within}
 use Rattle.totals.proofs.with_rings.Given as goal
 
-abbrev pub invariant-loop-ring : goal.invariant-loop-ring
-invariant-loop-ring l = l.next ≡ rows 17 (λ k. more (get_or l.initial.next k 0) (within l.ring-items l.ring-index k))
+abbrev pub invariant-loop-s : goal.invariant-loop-s
+invariant-loop-s l = l.next ≡ rows 17 (λ k. more (get_or l.initial.next k 0) (within l.fn.rings l.s k))
