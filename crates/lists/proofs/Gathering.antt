@@ -1,5 +1,5 @@
 -- How a list grows: whom it has then, and that those who are listed already, and those who do not pass, may be left out.
-use Rattle.std.proofs.Common.{◌≡◌, refl, sym, ap, ◌∙◌, Bool, true, false, not, ◌&&◌, List, [], ◌∷◌, ◌++◌, ℕ, zero, suc, ◌≤◌, ◌<◌, arith, add-one, zero-add, eqb, length, take, get_or}
+use Rattle.std.proofs.Common.{◌≡◌, refl, sym, ap, ◌∙◌, Bool, true, false, not, ◌&&◌, List, [], ◌∷◌, ◌++◌, ℕ, zero, suc, ◌≤◌, ◌<◌, arith, add-one, zero-add, eqb, ltb, length, take, get_or}
 use Rattle.std.proofs.Math.Decide.{dec_lt, ℕ_discrete}
 use Rattle.std.proofs.Math.Seq.{get_or-set_same, get_or-set_other}
 use Rattle.std.proofs.lemmas.List.{get_or-take, length-take-le}
@@ -8,8 +8,11 @@ use Rattle.std.specs.List.{list_any, enumerate_from}
 use borrow.Author.Tests.{eq-eqb, ne_eqb, eqb-true}
 use Rattle.rules.specs.declared.Entries.{Entries}
 use Rattle.rules.specs.Tables.{pick, either, rows, all, collect, among}
-use Rattle.rules.specs.Lists.{entry_at, listed, longer, add_one, add_all}
+use Rattle.rules.specs.Lists.{entry_at, listed, longer, add_one, add_all, with_next}
 use Rattle.values.proofs.Rows.{any_all}
+use Rattle.lists.specs.declared.gather.Rows.{Rows}
+use Rattle.lists.specs.Growing.{list_in}
+use Rattle.lists.specs.Sets.{Marks}
 use Rattle.rules.proofs.Tables.{all_ext, by_test, true_not_false, rows_last, rows_ext, among_append, collect_last}
 use Rattle.rules.proofs.Lists.{listed_is, is_listed, entry_grown, add_one_listed, add_one_new, add_one_grown, add_all_grown}
 
@@ -140,3 +143,29 @@ add_none t f l lead i (suc n) h p = elim (ℕ_discrete i (suc n)) [
   | yes z ↦ ap (λ (x : ℕ). add_all l lead (collect t f x)) (sym z)
   | no z ↦ add_more t f l lead n ∙ rw (p n (omega arith) (omega arith)) (add_none t f l lead i n (omega arith) (λ k a b. p k a (omega arith)))
 ]
+
+-- ---- which entry is asked next plays no part
+pub marks_next : (l : Entries) (n : ℕ) {s : ℕ} → Marks l s → Marks (with_next l n) s
+unfolding listed
+marks_next l n m = record { has = m.has }
+
+one_next : (l : Entries) (lead q n : ℕ) → add_one (with_next l n) lead q ≡ with_next (add_one l lead q) n
+unfolding add_one listed
+one_next l lead q n = same (listed l q) (ltb l.count 16)
+  where
+    same : (a b : Bool) → pick a (with_next l n) (pick b (longer (with_next l n) q lead) (with_next l n)) ≡ with_next (pick a l (pick b (longer l q lead) l)) n
+    same true b = refl
+    same false true = refl
+    same false false = refl
+
+all_next : (l : Entries) (lead : ℕ) (qs : List ℕ) (n m : ℕ) → with_next (add_all (with_next l n) lead qs) m ≡ add_all (with_next l m) lead qs
+unfolding add_all
+all_next l lead [] n m = refl
+all_next l lead (q ∷ qs) n m =
+    ap (λ (x : Entries). with_next (add_all x lead qs) m) (one_next l lead q n)
+    ∙ all_next (add_one l lead q) lead qs n m
+    ∙ ap (λ (x : Entries). add_all x lead qs) (sym (one_next l lead q m))
+
+-- the record that is made of full rows
+pub of_rows : (l : Entries) (lead : ℕ) (qs : List ℕ) (rows : Rows) (count : ℕ) → list_in rows count ≡ add_all (with_next l 0) lead qs → with_next (list_in rows count) l.next ≡ add_all l lead qs
+of_rows l lead qs rows count e = ap (λ (x : Entries). with_next x l.next) e ∙ all_next l lead qs 0 l.next

@@ -1,13 +1,13 @@
 -- Those that a process waits for, as a list takes them up: holders by their set, then those ahead; and what an object's home makes of a list.
-use Rattle.std.proofs.Common.{◌≡◌, refl, sym, ap, ◌∙◌, Bool, true, false, not, ◌&&◌, ℕ, ◌+◌, ◌-◌, ◌^◌, ◌<◌, arith, ltb, bit_or, bit_and, length, set}
-use borrow.Author.Tests.{lt-ltb, ltb-false, not-true, not-false}
+use Rattle.std.proofs.Common.{◌≡◌, refl, sym, ap, ◌∙◌, Bool, true, false, not, ◌&&◌, ℕ, ◌+◌, ◌-◌, ◌^◌, ◌<◌, ◌≤◌, arith, ltb, bit_or, bit_and, length}
+use borrow.Author.Tests.{lt-ltb, le-ltb, ltb-false, not-true, not-false}
 use Rattle.rules.specs.declared.Mode.{Mode}
 use Rattle.rules.specs.declared.Entries.{Entries}
 use Rattle.rules.specs.declared.Object.{Object}
 use Rattle.rules.specs.Tables.{rows, collect, among}
 use Rattle.rules.specs.Bits.{taken, with_bit}
 use Rattle.rules.specs.Book.{mode_at, waited_for}
-use Rattle.rules.specs.Lists.{starter_of, asked_of, listed, add_all, with_next, starter, no_entries}
+use Rattle.rules.specs.Lists.{starter_of, asked_of, listed, add_all, with_next, starter}
 use Rattle.rules.proofs.Bits.{taken_with, taken_zero, taken_or, taken_and, taken_not, taken_above, below_from}
 use Rattle.rules.proofs.Tables.{both_left, both_right}
 use Rattle.objects.specs.Sets.{SetOf}
@@ -62,10 +62,7 @@ module _ (l : Entries) (lead : ℕ) (t : ℕ → Bool) (marks s : ℕ) (size : l
       self : SetOf (taken (unmarked s marks)) (unmarked s marks)
       self = record { below = below_16; has = λ k. keeps k (ltb k 16) refl }
 
--- ---- a list is started: its first entry is put into an empty list
-pub starter_is : (p : ℕ) (l : Entries) → l ≡ no_entries → ◌≡◌ {A = Entries} (record { who = set l.who 0 p; leads = l.leads; count = 1; next = 1 }) (starter p)
-starter_is p l e = ap (λ (x : Entries). record { who = set x.who 0 p; leads = x.leads; count = 1; next = 1 }) e
-
+-- ---- a list is started
 pub starter_marks : (p : ℕ) → Marks (starter p) (with_bit 0 p)
 unfolding listed rows among
 starter_marks p = record { has = λ k z. taken_with 0 p k ∙ rw (taken_zero k, eqb_swap k p) }
@@ -75,5 +72,9 @@ module _ (l : Entries) (o : Object) (p k : ℕ) (m : Mode) (is-p : p ≡ asked_o
   pub closes_inside : among (starter_of l) (waited_for o p m k) ≡ closes l o k
   closes_inside = rw (is-p, is_m, lt-ltb k o.line_count inside)
 
-  pub grown_inside : (x : Entries) → x ≡ add_all l l.next (waited_for o p m k) → with_next x (l.next + 1) ≡ grown l o k
-  grown_inside x is_x = rw (is_x, is-p, is_m, lt-ltb k o.line_count inside)
+  pub grown_inside : (b : Object) (j : ℕ) → b ≡ o → j ≡ k → (x : Entries) → x ≡ add_all l l.next (waited_for b p m j) → with_next x (l.next + 1) ≡ grown l o k
+  grown_inside b j is-b is-j x is_x = rw (is_x, is-b, is-j, is-p, is_m, lt-ltb k o.line_count inside)
+
+-- a process that does not stand in the line adds nobody
+pub grown_outside : (l : Entries) (o : Object) (k : ℕ) → o.line_count ≤ k → with_next l (l.next + 1) ≡ grown l o k
+grown_outside l o k h = rw (le-ltb k o.line_count h)

@@ -9,6 +9,7 @@ ghost use Rattle.rules.specs.Lists as Lists;
 ghost use Rattle.rules.specs.Ranges.{LineRanged, ListRanged};
 ghost use Rattle.lists.specs.Onwards as Onwards;
 
+use gather::Rows;
 use rules::{Entries, Kind, Mode, Object, Wait};
 use standing::Standing;
 use values::bits::{wide, with};
@@ -63,20 +64,26 @@ pub fn started(o: Object, p: u8, m: Mode, k: u8) -> Entries
     requires { LineRanged o × (p < 16) × (k ≤ 16) }
     ensures { result ≡ Lists.add_all (Lists.starter p) 0 (Book.waited_for o p m k) }
 {
-    let mut list = Entries {
-        count: 1,
-        next: 1,
-        ..Entries::default()
+    let mut who = [0; 16];
+    who[0] = p;
+    let mut rows = Rows {
+        who,
+        leads: [0; 16],
     };
-    list.who[0] = p;
     let joining = Standing {
         book: o,
         process: p,
         mode: m,
         place: k,
     };
-    gather::add_unmarked(&mut list, with(0, p), joining, 0);
-    list
+    let count = gather::add_waited(&mut rows, 1, with(0, p), joining, 0);
+    let Rows { who, leads } = rows;
+    Entries {
+        who,
+        leads,
+        count,
+        next: 1,
+    }
 }
 
 // The process asked next stands at place k of the line.
@@ -106,10 +113,25 @@ pub fn grown(l: Entries, o: Object, k: u8) -> Entries
     requires { ListRanged l × LineRanged o }
     ensures { result ≡ Onwards.grown l o k }
 {
-    let mut list = l;
-    if k < o.line_count {
-        gather::add_waited(&mut list, asked_at(l, o, k), l.next);
+    let who = l.who;
+    let leads = l.leads;
+    let mut rows = Rows { who, leads };
+    let count = if k < o.line_count {
+        gather::add_waited(
+            &mut rows,
+            l.count,
+            gather::listed(&l),
+            asked_at(l, o, k),
+            l.next,
+        )
+    } else {
+        l.count
+    };
+    let Rows { who, leads } = rows;
+    Entries {
+        who,
+        leads,
+        count,
+        next: l.next + 1,
     }
-    list.next = l.next + 1;
-    list
 }

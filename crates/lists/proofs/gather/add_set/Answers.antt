@@ -9,8 +9,8 @@ loop-left-init c = (c.ranges.fresh.fits, taking_none _ _ _ c.requires.1 c.requir
 pub without-left-requires : goal.without-left-requires
 without-left-requires c = lowest_below _ c.loop-left.invariant.0 c.loop-left-test.true c.lowest-q.ensures.0
 
-pub add_entry-requires : goal.add_entry-requires
-add_entry-requires c =
+pub add_entry-count-requires : goal.add_entry-count-requires
+add_entry-count-requires c =
     let v = c.loop-left in
     λ _. taking_unlisted _ _ _ c.requires.1 _ _ v.invariant.1 _ c.lowest-q.ensures.0 (lowest_below _ v.invariant.0 c.loop-left-test.true c.lowest-q.ensures.0)
 
@@ -21,7 +21,7 @@ pub loop-left-preserved : goal.loop-left-preserved
 loop-left-preserved c =
     let v = c.loop-left in
     let less : c.without-left.result < v.left = lowest_out _ v.invariant.0 c.loop-left-test.true c.lowest-q.ensures.0 c.without-left.ensures in
-    (omega (arith, v.invariant.0), taking_one _ _ _ c.requires.1 _ _ v.invariant.1 _ c.lowest-q.ensures.0 (lowest_below _ v.invariant.0 c.loop-left-test.true c.lowest-q.ensures.0) _ _ c.add_entry.ensures c.without-left.ensures)
+    (omega (arith, v.invariant.0), taking_one _ _ _ c.requires.1 _ _ v.invariant.1 _ c.lowest-q.ensures.0 (lowest_below _ v.invariant.0 c.loop-left-test.true c.lowest-q.ensures.0) _ _ c.add_entry-count.ensures c.without-left.ensures)
 
 pub returns : goal.returns
 returns c =
