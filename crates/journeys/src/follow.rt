@@ -15,7 +15,7 @@ pub fn print(rt: &(impl Print + Errors), out: &mut Page) -> Result<(), Told> {
 fn delivery(out: &mut Page, before: &Desk, after: &Desk) {
     let old = &before.board;
     crate::tell(out, before, after, lowest(old.occupied));
-    rings::recorded_since(out, "      ring recorded: ", old, &after.board);
+    rings::recorded_since(out, b"      ring recorded: ", old, &after.board);
 }
 
 // So many deliveries, behind what stands on the page already. A page that is full is printed as far as it goes.

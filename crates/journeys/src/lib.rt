@@ -9,8 +9,9 @@ use messages::{asked, is_list, named, under, way};
 use rules::{Board, Kind, Message};
 use std::io::{Result, Write};
 use text::Page;
+use text::rows::row;
 use values::bits::{lowest, wide};
-use words::{Members, row};
+use words::Members;
 
 // What arrived, and its way.
 fn arrival(out: &mut Page, n: usize, m: &Message, way: (u8, u8)) -> Result<()> {

@@ -9,8 +9,9 @@ use desk::messages::arrives_at;
 use rules::{Board, Entries, Kind, Message};
 use std::io::{Result, Write};
 use text::Page;
+use text::rows::{on_or_below, row};
 use values::bits::wide;
-use words::{Members, on_or_below, row};
+use words::Members;
 
 // ---- what a message carries
 // The message under a number; none where the number is above 63.
@@ -102,16 +103,17 @@ fn entries(out: &mut Page, m: &Message) -> Result<()> {
 }
 
 // The message under a number, behind a word or two.
-pub fn tell(out: &mut Page, before: &str, desk: &Desk, n: usize) {
+pub fn tell(out: &mut Page, before: &[u8], desk: &Desk, n: usize) {
     let _full = put(out, before, desk, n);
 }
 
-fn put(out: &mut Page, before: &str, desk: &Desk, n: usize) -> Result<()> {
+fn put(out: &mut Page, before: &[u8], desk: &Desk, n: usize) -> Result<()> {
     let Some(m) = under(&desk.board, n) else {
         return Ok(());
     };
     let (from, to) = way(desk, n);
-    write!(out, "{before}{n}")?;
+    out.write_all(before)?;
+    write!(out, "{n}")?;
     named(out, &m)?;
     heading(out, &m)?;
     write!(out, ", from node {from} to node {to}")?;
@@ -120,7 +122,7 @@ fn put(out: &mut Page, before: &str, desk: &Desk, n: usize) -> Result<()> {
 }
 
 // Each message of a set, one to a line.
-pub fn tell_each(out: &mut Page, before: &str, desk: &Desk, set: u64) {
+pub fn tell_each(out: &mut Page, before: &[u8], desk: &Desk, set: u64) {
     for n in Members::of(set) {
         tell(out, before, desk, wide(n));
     }
@@ -129,7 +131,7 @@ pub fn tell_each(out: &mut Page, before: &str, desk: &Desk, set: u64) {
 // ---- the messages in flight
 pub fn in_flight(out: &mut Page, desk: &Desk) {
     let set = desk.board.occupied;
-    tell_each(out, "  message ", desk, set);
+    tell_each(out, b"  message ", desk, set);
     if set == 0 {
         let _full = writeln!(out, "  no message in flight");
     }
@@ -141,7 +143,7 @@ pub fn in_flight_to(out: &mut Page, desk: &Desk, node: u8) {
     let begun = out.len();
     for n in Members::of(b.occupied) {
         if arrives_at(*b, wide(n)) == node {
-            tell(out, "  message ", desk, wide(n));
+            tell(out, b"  message ", desk, wide(n));
         }
     }
     if out.len() == begun {

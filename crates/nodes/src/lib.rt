@@ -5,9 +5,10 @@ ghost use Rattle.std.specs.Prelude.{◌≤◌, length};
 
 use rules::{Board, Object, Process, Wait};
 use std::io::{Result, Write};
+use text::rows::{numbers, on_or_below, row};
 use text::{Page, start};
-use values::bits::{has, lowest, wide};
-use words::{Members, counted, mode_in, numbers, on_or_below, places, row, size};
+use values::bits::{has, lowest, places, wide};
+use words::{Members, counted, mode_in, size};
 
 // A book that a node keeps. Those of a node with nothing to tell stand together on one line, where the first of them would stand.
 trait Book {

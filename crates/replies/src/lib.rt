@@ -9,9 +9,9 @@ mod verb;
 use rules::Answer;
 use std::io::{Result, Write};
 use text::Page;
+use text::rows::on_or_below;
 use typed::{Typed, asks_mode};
 use values::mode::mode_if;
-use words::on_or_below;
 
 // The number of an answer and its words; the line goes on.
 pub fn answer(out: &mut Page, a: Answer) {

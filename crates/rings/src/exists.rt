@@ -4,8 +4,9 @@ use crate::{named, turns};
 use rules::{Board, Kind, Ring};
 use std::io::{Result, Write};
 use text::Page;
+use text::rows::{numbers, on_or_below};
 use values::bits::{has, lowest, wide};
-use words::{Members, numbers, on_or_below};
+use words::Members;
 
 // A ring, and what is said of it behind.
 fn line<F: Fn(&mut Page, u64) -> Result<()>>(

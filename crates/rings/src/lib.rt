@@ -6,18 +6,18 @@ mod turns;
 
 use rules::{Board, Ring};
 use std::io::{Result, Write};
-use text::Page;
+use text::{Page, rows};
 
 // The processes of a ring, starter first.
 fn named(out: &mut Page, r: &Ring) -> Result<()> {
-    words::numbers(out, 99, 'p', turns::processes(r).iter().copied())
+    rows::numbers(out, 99, 'p', turns::processes(r).iter().copied())
 }
 
 // The ring in each place that was empty before, on a line behind a word or two.
-fn since(out: &mut Page, old: &[Ring; 16], before: &str, now: &[Ring; 16]) -> Result<()> {
+fn since(out: &mut Page, old: &[Ring; 16], before: &[u8], now: &[Ring; 16]) -> Result<()> {
     for (past, ring) in old.iter().zip(now) {
         if past.count == 0 && ring.count != 0 {
-            write!(out, "{before}")?;
+            out.write_all(before)?;
             named(out, ring)?;
             writeln!(out)?;
         }
@@ -26,7 +26,7 @@ fn since(out: &mut Page, old: &[Ring; 16], before: &str, now: &[Ring; 16]) -> Re
 }
 
 // The rings that were recorded between two boards, each on a line behind a word or two.
-pub fn recorded_since(out: &mut Page, before: &str, old: &Board, new: &Board) {
+pub fn recorded_since(out: &mut Page, before: &[u8], old: &Board, new: &Board) {
     let _full = since(out, &old.rings, before, &new.rings);
 }
 
@@ -38,7 +38,7 @@ pub fn recorded(out: &mut Page, b: &Board) {
 fn put_recorded(out: &mut Page, b: &Board) -> Result<()> {
     let none = [Ring::default(); 16];
     writeln!(out, "  rings recorded: {}", sums::tally(*b))?;
-    since(out, &none, "    ring ", &b.rings)
+    since(out, &none, b"    ring ", &b.rings)
 }
 
 // The rings that exist now, recorded or not. Every process that stands in a ring is in one that is told.

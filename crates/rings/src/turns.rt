@@ -1,8 +1,7 @@
 // Rings as sets and as arcs: who is in one, and which are the same ring told from another process on.
 use rules::Ring;
 use text::start;
-use values::bits::{wide, with};
-use words::places;
+use values::bits::{places, wide, with};
 
 // The processes of a ring, starter first.
 pub fn processes(r: &Ring) -> &[u8] {

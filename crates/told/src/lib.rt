@@ -39,10 +39,10 @@ fn moved(out: &mut Page, before: &Desk, after: &Desk, arrived: Option<usize>) ->
         .and_then(|n| messages::under(old, n))
         .filter(messages::is_list);
     if let Some(n) = arrived {
-        messages::tell(out, "  arrived message ", before, n);
+        messages::tell(out, b"  arrived message ", before, n);
     }
-    messages::tell_each(out, "  sent message ", after, set);
-    rings::recorded_since(out, "  ring recorded: ", old, new);
+    messages::tell_each(out, b"  sent message ", after, set);
+    rings::recorded_since(out, b"  ring recorded: ", old, new);
     if list.is_some() && set == 0 && sums::tally(*new) == sums::tally(*old) {
         writeln!(out, "  the list ends without a new ring")?;
     }
@@ -154,7 +154,7 @@ fn put(out: &mut Page, before: &Desk, t: &Typed, acted: &Acted) -> Result<()> {
         Verb::Request | Verb::Release | Verb::Deliver => stepped(out, before, acted),
         Verb::Drain => {
             drained(out, before, acted)?;
-            rings::recorded_since(out, "  ring recorded: ", &before.board, &acted.desk.board);
+            rings::recorded_since(out, b"  ring recorded: ", &before.board, &acted.desk.board);
             Ok(())
         }
         Verb::Follow => drained(out, before, acted),

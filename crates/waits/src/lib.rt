@@ -9,8 +9,9 @@ use objects::{bars, mode_at, rivals};
 use rules::{Board, Mode, Object};
 use std::io::{Result, Write};
 use text::Page;
+use text::rows::{numbers, on_or_below};
 use values::bits::{has, wide};
-use words::{Members, counted, numbers, on_or_below, size};
+use words::{Members, counted, size};
 
 // Those who stand ahead of place k in conflict with process p in the mode, and are not among the holders that it waits for.
 fn in_conflict(o: &Object, p: u8, m: Mode, k: usize, holders: u64) -> ArrayVec<u8, 16>
