@@ -17,7 +17,8 @@ mod next;
 mod packed;
 
 // Each command that the source gives, on the board; each answer's number into the room. At most so many turns. The caller says the load at
-// the start.
+// the start. It is a call of its own for a drain too: put into its one caller it would have room for one more board made ready each time.
+#[inline(never)]
 pub fn turns<S: Source + Copy>(
     start: Board,
     source: S,
