@@ -48,6 +48,17 @@ pub decimal_is : (n : ℕ) → n < 2 ^ 64 → written_decimal n ≡ decimal n
 unfolding decimal
 decimal_is n h = sym (decimal_from_appends digits (record { one = digits_one; more = digits_more }) (suc n) n h (omega (arith, length-decimal-le_succ n h)))
 
+-- of what the library writes: four digits at most below 10,000, and room for four, or for twenty, is room enough
+module _ (n : ℕ) {l : List ℕ} (e : l ≡ written_decimal n) where
+  pub four_digits : n < 10000 → length l ≤ 4
+  four_digits h = omega (arith, ap length e, length-decimal-le 4 n (omega arith) h (omega arith))
+
+  pub room_left : (end : ℕ) → length l ≤ 20 → (n < 10000 → end + 4 ≤ 65536) × (10000 ≤ n → end + 20 ≤ 65536) → end + length l ≤ 65536
+  room_left end short room = elim (dec_lt n 10000) [
+    | yes h ↦ omega (arith, room.0 h, four_digits h)
+    | no f ↦ omega (arith, room.1 (omega (arith, f)))
+  ]
+
 -- two digits, and three or four of which the last two stand apart
 pub decimal_two : (n : ℕ) → 10 ≤ n → n < 100 → ((48 + n / 10) ∷ []) ++ (48 + n % 10) ∷ [] ≡ decimal n
 decimal_two n h g = rw (decimal_more n h, decimal_one (n / 10) (omega arith))
@@ -68,8 +79,8 @@ length_more n h = ap length (decimal_more n h) ∙ length-append (decimal (n / 1
 decimal_length : (k n : ℕ) → 0 < k → n < 10 ^ k → n < 2 ^ 64 → length (decimal n) ≤ k
 decimal_length k n some short fits = omega (arith, ap length (decimal_is n fits), length-decimal-le k n some short fits)
 
-pub four_digits : (n : ℕ) → n < 10000 → length (decimal n) ≤ 4
-four_digits n h = decimal_length 4 n (omega arith) h (omega arith)
+pub decimal_short : (n : ℕ) → n < 10000 → length (decimal n) ≤ 4
+decimal_short n h = four_digits n (sym (decimal_is n (omega arith))) h
 
 pub twenty_digits : (n : ℕ) → n < 2 ^ 64 → length (decimal n) ≤ 20
 twenty_digits n h = decimal_length 20 n (omega arith) (omega arith) h
@@ -77,11 +88,8 @@ twenty_digits n h = decimal_length 20 n (omega arith) (omega arith) h
 pub higher_length : (n : ℕ) → n < 2 ^ 64 → length (decimal (n / 10)) ≤ 19
 higher_length n h = decimal_length 19 (n / 10) (omega arith) (omega arith) (omega arith)
 
-pub room_left : (n end : ℕ) → n < 2 ^ 64 → (n < 10000 → end + 4 ≤ 65536) × (10000 ≤ n → end + 20 ≤ 65536) → end + length (decimal n) ≤ 65536
-room_left n end fits room = elim (dec_lt n 10000) [
-  | yes h ↦ omega (arith, room.0 h, four_digits n h)
-  | no f ↦ omega (arith, room.1 (omega (arith, f)), twenty_digits n fits)
-]
+pub decimal_room : (n end : ℕ) → n < 2 ^ 64 → (n < 10000 → end + 4 ≤ 65536) × (10000 ≤ n → end + 20 ≤ 65536) → end + length (decimal n) ≤ 65536
+decimal_room n end fits room = room_left n (sym (decimal_is n fits)) end (twenty_digits n fits) room
 
 -- no leading zero
 digits_lead : (d n : ℕ) → n < d → 0 < n → (z : ℕ) → 48 < get_or (digits d n) 0 z
